@@ -1,0 +1,190 @@
+//! The tags of a transfer.
+ghost use Rattle.std.specs.Prelude.{◌≡◌, ◌<◌, ◌≤◌, ℕ, List, [], ◌∷◌, All, length};
+ghost use Rattle.guards_model.specs.Channels.{has};
+ghost use Rattle.guards_model.specs.Transfers.{TransferCycle, remains, remaining_blocks, planned_blocks};
+ghost use Rattle.guards_model.specs.Tags.{StandFor, tags_of, tags_written, tags_closed, plan_by_tags};
+
+use crate::Plan;
+use crate::marks::{count, filled, gather, mark, next_start, unmark};
+use std::marker::Model;
+
+/// Which blocks of a context remain, the block at which the next plan begins, and the blocks that were written in
+/// the running cycle. Contracts see a record of these. No call takes memory.
+#[derive(Drop)]
+pub struct Tags {
+    blocks: u16,
+    cursor: u16,
+    remaining: [bool; 256],
+    written: [bool; 256],
+}
+
+impl Model for Tags {
+    ghost use Rattle.std.specs.Prelude.{◌<◌, ◌≤◌};
+    ghost use Rattle.guards_model.specs.Tags.{TagsValue};
+    ghost use Rattle.dirty_tags.specs.Marks.{marked};
+    ghost use Rattle.dirty_tags.specs.TagFields.{IsTagFields};
+
+    ghost Value = { TagsValue };
+
+    ghost view = { λ t. record { blocks = t.blocks; remaining = marked t.blocks t.remaining; cursor = t.cursor; written = marked t.blocks t.written } };
+
+    ghost invariant = { λ t. IsTagFields t.blocks t.cursor };
+}
+
+impl Tags {
+    /// The tags at the start of a transfer: all blocks remain.
+    pub fn all(blocks: u16) -> Tags
+        requires some { 1 ≤ blocks }
+        requires most { blocks ≤ 256 }
+        ensures tags { result ≡ tags_of blocks [] [] }
+        ensures blocks { result.blocks ≡ blocks }
+    {
+        Tags {
+            blocks,
+            cursor: 0,
+            remaining: filled(true),
+            written: filled(false),
+        }
+    }
+
+    /// The plan of this cycle: the first `sweep` remaining blocks in cyclic order from the cursor.
+    pub fn plan(&self, sweep: u8) -> Plan
+        requires { sweep ≤ 64 }
+        ensures tags { result ≡ plan_by_tags sweep self.now }
+        ensures cycles { (cycles : List TransferCycle) (written : List ℕ) →
+            StandFor self.now cycles written → result ≡ planned_blocks self.now.blocks sweep cycles }
+        ensures below { All (λ b. b < self.now.blocks) result }
+    {
+        let cursor = usize::from(self.cursor);
+        let blocks = usize::from(self.blocks);
+        let mut plan = Plan::new();
+        gather(
+            &self.remaining,
+            cursor,
+            blocks,
+            usize::from(sweep),
+            &mut plan,
+        );
+        gather(&self.remaining, 0, cursor, usize::from(sweep), &mut plan);
+        plan
+    }
+
+    /// Notes a write to a block in this cycle.
+    pub fn wrote(&mut self, block: u8)
+        requires { block < self.old.blocks }
+        ensures tags { self.new ≡ tags_written block self.old }
+        ensures cycles { (cycles : List TransferCycle) (written : List ℕ) →
+            StandFor self.old cycles written → StandFor self.new cycles (block ∷ written) }
+        ensures blocks { self.new.blocks ≡ self.old.blocks }
+    {
+        self.written[usize::from(block)] = true;
+    }
+
+    /// Closes a cycle with the plan that it had, and answers how many blocks remain.
+    pub fn close_cycle(&mut self, plan: &Plan) -> u16
+        ensures tags { self.new ≡ tags_closed plan.now self.old }
+        ensures cycles { (cycles : List TransferCycle) (written : List ℕ) →
+            StandFor self.old cycles written → StandFor self.new (record { planned = plan.now; written = written } ∷ cycles) [] }
+        ensures remaining { result ≡ length self.new.remaining }
+        ensures blocks { self.new.blocks ≡ self.old.blocks }
+    {
+        unmark(&mut self.remaining, plan.as_slice());
+        mark(&mut self.remaining, &self.written);
+        self.written = filled(false);
+        self.cursor = next_start(plan.as_slice(), self.cursor, self.blocks);
+        self.remaining()
+    }
+
+    /// Whether a block remained at the end of the last cycle.
+    pub fn remains(&self, block: u8) -> bool
+        requires { block < self.now.blocks }
+        ensures tags { result ≡ has self.now.remaining block }
+        ensures cycles { (cycles : List TransferCycle) (written : List ℕ) →
+            StandFor self.now cycles written → result ≡ remains cycles block }
+    {
+        self.remaining[usize::from(block)]
+    }
+
+    /// How many blocks remained at the end of the last cycle.
+    pub fn remaining(&self) -> u16
+        ensures tags { result ≡ length self.now.remaining }
+        ensures cycles { (cycles : List TransferCycle) (written : List ℕ) →
+            StandFor self.now cycles written → result ≡ length (remaining_blocks self.now.blocks cycles) }
+        ensures most { result ≤ self.now.blocks }
+    {
+        count(&self.remaining[..usize::from(self.blocks)])
+    }
+
+    /// The blocks that remained at the end of the last cycle, ascending.
+    pub fn rest(&self) -> Plan
+        requires { length self.now.remaining ≤ 64 }
+        ensures tags { result ≡ self.now.remaining }
+        ensures cycles { (cycles : List TransferCycle) (written : List ℕ) →
+            StandFor self.now cycles written → result ≡ remaining_blocks self.now.blocks cycles }
+        ensures below { All (λ b. b < self.now.blocks) result }
+    {
+        let mut plan = Plan::new();
+        gather(&self.remaining, 0, usize::from(self.blocks), 64, &mut plan);
+        plan
+    }
+}
+
+#[cfg(test)]
+mod tests {
+    use super::*;
+    use std::test::Fail;
+
+    // A block written in the cycle that plans it remains; the cursor goes on and wraps.
+    #[test]
+    fn plans_in_turn(rt: HostRuntime) -> Result<(), Fail> {
+        let mut tags = Tags::all(5);
+        assert_eq!(rt; tags.remaining(), 5);
+        let first = tags.plan(3);
+        assert_eq!(rt; first.as_slice(), [0, 1, 2].as_slice());
+        tags.wrote(1);
+        assert_eq!(rt; tags.close_cycle(&first), 3);
+        assert!(rt; tags.remains(1));
+        assert!(rt; !tags.remains(0));
+        assert_eq!(rt; tags.rest().as_slice(), [1, 3, 4].as_slice());
+        let second = tags.plan(3);
+        assert_eq!(rt; second.as_slice(), [3, 4, 1].as_slice());
+        assert_eq!(rt; tags.close_cycle(&second), 0);
+        assert_eq!(rt; tags.plan(3).len(), 0);
+        Ok(())
+    }
+
+    // A block written after its copy remains again, and an empty plan leaves the cursor.
+    #[test]
+    fn writes_come_back(rt: HostRuntime) -> Result<(), Fail> {
+        let mut tags = Tags::all(2);
+        let both = tags.plan(64);
+        assert_eq!(rt; both.as_slice(), [0, 1].as_slice());
+        assert_eq!(rt; tags.close_cycle(&both), 0);
+        let none = tags.plan(64);
+        assert_eq!(rt; none.len(), 0);
+        tags.wrote(0);
+        tags.wrote(1);
+        tags.wrote(0);
+        assert_eq!(rt; tags.close_cycle(&none), 2);
+        assert_eq!(rt; tags.plan(1).as_slice(), [0].as_slice());
+        Ok(())
+    }
+
+    // All 256 blocks: the last plan ends at block 255, and the next begins at block 0.
+    #[test]
+    fn most_blocks(rt: HostRuntime) -> Result<(), Fail> {
+        let mut tags = Tags::all(256);
+        let plan = tags.plan(64);
+        assert_eq!(rt; plan.len(), 64);
+        assert_eq!(rt; tags.close_cycle(&plan), 192);
+        let plan = tags.plan(64);
+        assert_eq!(rt; tags.close_cycle(&plan), 128);
+        let plan = tags.plan(64);
+        assert_eq!(rt; tags.close_cycle(&plan), 64);
+        let plan = tags.plan(64);
+        tags.wrote(255);
+        assert_eq!(rt; tags.close_cycle(&plan), 1);
+        assert_eq!(rt; tags.plan(64).as_slice(), [255].as_slice());
+        Ok(())
+    }
+}
