@@ -1,0 +1,19 @@
+//! Plain values that every other crate uses: lists, texts, channels, source words and ballots.
+#![tactic(auto)]
+
+mod channel;
+mod list;
+mod refused;
+mod text;
+mod word;
+
+pub use channel::{CHANNELS, Chan, ChanSet};
+pub use list::{Bytes, Numbers, Sequence, Words};
+pub use refused::Refused;
+pub use text::Text;
+pub use word::{Ballot, SourceWord};
+
+pub use guards_model::{Law, Mode, Slot};
+
+#[cfg(test)]
+mod tests;
