@@ -8,12 +8,11 @@ mod text;
 mod word;
 
 pub use channel::{CHANNELS, Chan, ChanSet};
+pub use guards_model::{Law, Mode, Slot};
 pub use list::{Bytes, Numbers, Sequence, Words};
 pub use refused::Refused;
 pub use text::Text;
 pub use word::{Ballot, SourceWord};
-
-pub use guards_model::{Law, Mode, Slot};
 
 #[cfg(test)]
 mod tests;
