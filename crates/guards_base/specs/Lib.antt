@@ -1,3 +1,4 @@
 pub mod Seen
 pub mod Padding
 pub mod Masks
+pub mod Flags

@@ -4,7 +4,7 @@ use Rattle.std.specs.List.{list_all, range_with_len}
 use Rattle.std.proofs.lemmas.Bool.{eqb-true}
 use Rattle.guards_model.specs.Channels.{channels_where, every_channel, has, mask, set_of_mask, union, without}
 
-both : (a b : Bool) → (a && b) ≡ true → (a ≡ true) × (b ≡ true)
+pub both : (a b : Bool) → (a && b) ≡ true → (a ≡ true) × (b ≡ true)
 both true b h = (refl, h)
 both false b h = absurd cc
 
@@ -19,13 +19,13 @@ tried p (suc n) k m all low high =
     by_first true e here rest = subst (λ j. p j ≡ true) (sym (eqb-true m k e)) here
     by_first false e here rest = rest (grind (arith, e, low))
 
-abbrev same_list : List ℕ → List ℕ → Bool
+abbrev pub same_list : List ℕ → List ℕ → Bool
 same_list [] [] = true
 same_list [] (y ∷ ys) = false
 same_list (x ∷ xs) [] = false
 same_list (x ∷ xs) (y ∷ ys) = (x == y) && same_list xs ys
 
-same_list-true : (xs ys : List ℕ) → same_list xs ys ≡ true → xs ≡ ys
+pub same_list-true : (xs ys : List ℕ) → same_list xs ys ≡ true → xs ≡ ys
 same_list-true [] [] h = refl
 same_list-true [] (y ∷ ys) h = absurd cc
 same_list-true (x ∷ xs) [] h = absurd cc

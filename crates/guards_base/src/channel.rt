@@ -79,7 +79,7 @@ fn one_bit(number: u8) -> u8
 }
 
 // Whether the bit of a channel is set.
-fn has_bit(bits: u8, number: u8) -> bool
+pub(crate) fn has_bit(bits: u8, number: u8) -> bool
     requires { number < 7 }
     ensures { result ≡ ((bits / 2 ^ number) % 2 == 1) }
 {

@@ -2,6 +2,7 @@
 #![tactic(auto)]
 
 mod channel;
+mod flags;
 mod list;
 mod refused;
 mod text;
