@@ -57,7 +57,7 @@ abbrev is_back : ℕ → Bool
 is_back m = mask (set_of_mask m) == m
 
 each_back : list_all is_back (range_with_len 0 128) ≡ true
-unfolding channels_where set_of_mask
+unfolding channels_where set_of_mask mask
 each_back = refl
 
 pub mask_back : (m : ℕ) → m < 128 → mask (set_of_mask m) ≡ m
