@@ -57,7 +57,7 @@ impl Model for ChanSet {
     ghost use Rattle.std.specs.Prelude.{◌<◌};
     ghost use Rattle.std.proofs.Common.{ap};
     ghost use Rattle.guards_model.specs.Channels.{ChannelSet, mask, set_of_mask};
-    ghost use Rattle.guards_base.specs.Masks.{mask_back};
+    ghost use Rattle.guards_model.proofs.Masks.{mask_back};
 
     ghost Value = { ChannelSet };
 
@@ -155,7 +155,7 @@ impl ChanSet {
     }
 
     /// The number whose bit q stands for channel q.
-    #[tactic(auto, using(crate::specs::Masks::mask_back))]
+    #[tactic(auto, using(guards_model::proofs::Masks::mask_back))]
     pub fn mask(&self) -> u8
         ensures value { result ≡ mask self.now }
         ensures below { result < 128 }

@@ -5,6 +5,7 @@ mod channel;
 mod flags;
 mod list;
 mod refused;
+mod rules;
 mod text;
 mod word;
 
@@ -12,6 +13,7 @@ pub use channel::{CHANNELS, Chan, ChanSet};
 pub use guards_model::{Law, Mode, Slot};
 pub use list::{Bytes, Numbers, Sequence, Words};
 pub use refused::Refused;
+pub use rules::Rules;
 pub use text::Text;
 pub use word::{Ballot, SourceWord};
 

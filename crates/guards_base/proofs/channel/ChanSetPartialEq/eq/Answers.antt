@@ -1,6 +1,6 @@
 use Rattle.std.proofs.Common.{◌≡◌, sym, ap, ◌∙◌}
 use Rattle.guards_model.specs.Channels.{mask}
-use Rattle.guards_base.specs.Masks.{mask_back}
+use Rattle.guards_model.proofs.Masks.{mask_back}
 use Rattle.guards_base.proofs.channel.ChanSetPartialEq.eq.Goals as goal
 
 pub returns : goal.returns
