@@ -2,7 +2,7 @@
 use Rattle.std.proofs.Common.{◌≡◌, ℕ, zero, suc, ◌+◌, ◌*◌, ◌/◌, ◌%◌, ◌^◌, ◌<◌, ◌≤◌, ◌==◌, Bool, true, false, ◌&&◌, nat_lt, ◌-◌, List, [], ◌∷◌, length, refl, sym, subst, ap, arith, if◌then◌else◌}
 use Rattle.std.specs.List.{list_all, range_with_len}
 use Rattle.std.proofs.lemmas.Bool.{eqb-true}
-use Rattle.guards_model.specs.Channels.{channels_where, has, set_of_mask, union, without}
+use Rattle.guards_model.specs.Channels.{channels_where, has, numbers_below, set_of_mask, union, without}
 use Rattle.guards_model.proofs.Masks.{tried}
 
 pub both : (a b : Bool) → (a && b) ≡ true → (a ≡ true) × (b ≡ true)
@@ -110,3 +110,24 @@ each_counted = refl
 
 pub length-set_of_mask : (m : ℕ) → m < 128 → length (set_of_mask m) ≡ bit_count m
 length-set_of_mask m below = eqb-true _ _ (tried is_counted 128 0 m each_counted (omega arith) below)
+
+-- ---- all channels of a mission
+
+abbrev pub mask_below : ℕ → ℕ
+mask_below n = 2 ^ n - 1
+
+abbrev is_below : ℕ → Bool
+is_below n = nat_lt (mask_below n) 128 && same_list (set_of_mask (mask_below n)) (numbers_below n)
+
+each_below : list_all is_below (range_with_len 0 8) ≡ true
+unfolding channels_where set_of_mask
+each_below = refl
+
+below_parts : (n : ℕ) → n ≤ 7 → (nat_lt (mask_below n) 128 ≡ true) × (same_list (set_of_mask (mask_below n)) (numbers_below n) ≡ true)
+below_parts n most = both _ _ (tried is_below 8 0 n each_below (omega arith) (omega arith))
+
+pub mask_below-below : (n : ℕ) → n ≤ 7 → mask_below n < 128
+mask_below-below n most = grind (arith, (below_parts n most).0)
+
+pub set_of_mask-below : (n : ℕ) → n ≤ 7 → set_of_mask (mask_below n) ≡ numbers_below n
+set_of_mask-below n most = same_list-true _ _ (below_parts n most).1

@@ -1,7 +1,7 @@
 //! Channels and sets of channels.
 ghost use Rattle.std.specs.Prelude.{◌≡◌, ◌≤◌, ◌<◌, ◌/◌, ◌%◌, ◌^◌, ◌==◌, [], ◌∷◌, length, MatchOption};
-ghost use Rattle.guards_model.specs.Channels.{has, mask, set_of_mask, union, without};
-ghost use Rattle.guards_base.specs.Masks.{bit_count, mask_with, mask_without};
+ghost use Rattle.guards_model.specs.Channels.{has, mask, numbers_below, set_of_mask, union, without};
+ghost use Rattle.guards_base.specs.Masks.{bit_count, mask_below, mask_with, mask_without};
 
 use std::marker::Model;
 
@@ -110,12 +110,33 @@ fn without_bit(bits: u8, number: u8) -> u8
     bits.saturating_sub(bit)
 }
 
+fn bits_below(count: u8) -> u8
+    requires { count ≤ 7 }
+    ensures { result ≡ mask_below count }
+{
+    if count < CHANNELS {
+        one_bit(count) - 1
+    } else {
+        127
+    }
+}
+
 impl ChanSet {
     /// The set without a member.
     pub fn empty() -> ChanSet
         ensures { result ≡ [] }
     {
         ChanSet { bits: 0 }
+    }
+
+    /// The channels whose numbers are below this one.
+    pub fn below(count: u8) -> ChanSet
+        requires { count ≤ 7 }
+        ensures { result ≡ numbers_below count }
+    {
+        ChanSet {
+            bits: bits_below(count),
+        }
     }
 
     pub fn has(&self, c: Chan) -> bool
