@@ -3,7 +3,7 @@ use Rattle.std.proofs.Common.{◌≡◌, ℕ, zero, suc, ◌<◌, ◌==◌, ◌�
 use Rattle.std.specs.Prelude.{filter, take, drop}
 use Rattle.guards_model.specs.Channels.{has, numbers_below}
 use Rattle.guards_model.specs.Transfers.{TransferCycle, remains, remaining_blocks, sweep_cursor, cyclic_from, planned_blocks}
-use Rattle.guards_model.specs.Tags.{TagsValue, StandFor, blocks_in, tags_of, tags_written, tags_closed, plan_by_tags}
+use Rattle.guards_model.specs.Tags.{TagsValue, StandFor, blocks_in, tags_of, tags_written, tags_noted, tags_closed, plan_by_tags}
 use Rattle.guards_model.proofs.Tables.{has-filter}
 use Rattle.guards_model.proofs.TagLaw.{remains-step}
 use Rattle.guards_model.proofs.NumbersBelow.{below_there}
@@ -133,6 +133,21 @@ module _ (t : TagsValue) (cycles : List TransferCycle) (written : List ℕ) (sta
 
   pub stand_closed : (planned : List ℕ) → tags_closed planned t ≡ tags_of t.blocks (record { planned = planned; written = written } ∷ cycles) []
   stand_closed planned = ap (tags_closed planned) stands ∙ tags_close t.blocks cycles written planned
+
+-- writes to all blocks of a list, after none
+pub stand_noted : (t : TagsValue) (cycles : List TransferCycle) (list : List ℕ) → StandFor t cycles [] → tags_noted list t ≡ tags_of t.blocks cycles list
+unfolding tags_of tags_noted
+stand_noted t cycles list stands =
+    let with_written : List ℕ → TagsValue
+    = λ ws. record { blocks = t.blocks; remaining = remaining_blocks t.blocks cycles; cursor = sweep_cursor t.blocks cycles; written = ws } in
+    ap (tags_noted list) stands
+    ∙ ap with_written
+    (filter_alike (λ b. has list b || has (blocks_in t.blocks []) b) (has list) (numbers_below t.blocks)
+    (λ b h. ap (λ w. has list b || w) (has-blocks_in t.blocks [] b h) ∙ or_false (has list b)))
+  where
+    or_false : (b : Bool) → (b || false) ≡ b
+    or_false true = refl
+    or_false false = refl
 
 -- all blocks remain at the start
 pub stand_all : (blocks : ℕ) → StandFor (tags_of blocks [] []) [] []

@@ -40,6 +40,16 @@ tags_written block tags =
       written = blocks_in tags.blocks (block ∷ tags.written);
     }
 
+-- the tags after writes to all blocks of a list
+unfoldable pub tags_noted : List ℕ → TagsValue → TagsValue
+tags_noted list tags =
+    record {
+      blocks = tags.blocks;
+      remaining = tags.remaining;
+      cursor = tags.cursor;
+      written = filter (λ b. has list b || has tags.written b) (numbers_below tags.blocks);
+    }
+
 -- the tags after a cycle with this plan: a block remains where it was written, or remained and was not planned
 unfoldable pub tags_closed : List ℕ → TagsValue → TagsValue
 tags_closed planned tags =
