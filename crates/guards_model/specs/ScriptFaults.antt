@@ -32,6 +32,7 @@ rules_of_entry channels cycles blocks at (bus rule) =
 abbrev pub first_broken : List RuleOfEntry → Option ScriptFaultValue
 first_broken rules = option_map (λ rule. rule.1) (find (λ rule. not rule.0) rules)
 
+-- the first of two faults
 abbrev pub or_later : Option ScriptFaultValue → Option ScriptFaultValue → Option ScriptFaultValue
 or_later (Some fault) later = Some fault
 or_later None later = later
