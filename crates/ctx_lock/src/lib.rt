@@ -1,0 +1,13 @@
+//! One value that two workers step by turns, and whose history is known when the lock is closed.
+#![tactic(auto)]
+
+mod gate;
+mod plays;
+mod shared;
+mod turned;
+mod view;
+
+pub use gate::{Gate, OpenGate};
+pub use guards_model::Actor;
+pub use shared::{Closed, Pass, Refused, Shared};
+pub use turned::Turned;

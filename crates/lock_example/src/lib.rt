@@ -1,0 +1,12 @@
+//! An example of the context lock: two workers play one score by turns, each its own part.
+#![tactic(auto)]
+
+mod lent;
+mod score;
+#[cfg(test)]
+mod tests;
+mod workers;
+
+pub use lent::{Concert, Listener, perform};
+pub use score::{Score, Trail};
+pub use workers::{both, work};

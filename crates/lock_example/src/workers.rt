@@ -1,0 +1,58 @@
+//! The two workers.
+ghost use Rattle.std.specs.Prelude.{◌≡◌, ◌≤◌, IfOk, IfErr};
+ghost use Rattle.guards_model.specs.declared.Actor.{Actor};
+ghost use Rattle.ctx_lock.specs.History.{times};
+ghost use Rattle.ctx_lock.specs.Handles.{closed_value, closed_from, IsPassOf, IsWorkedOut};
+
+use ctx_lock::{Actor, Closed, Gate, Pass, Refused, Shared, Turned};
+use std::alloc::Global;
+use std::sync::Wait;
+use std::thread::{Threads, join};
+
+/// Steps until all that are due of the pass's actor are made.
+pub fn work<T: Turned, G: Gate, R: Wait>(
+    rt: &R,
+    shared: &Shared<T>,
+    chan: u8,
+    mut pass: Pass<T>,
+    gate: &G,
+) -> Pass<T>
+    requires { IsPassOf shared.now pass }
+    ensures { IsWorkedOut T.due pass result }
+{
+    for _ in rt.forever() {
+        if !shared.take_step(rt, chan, &mut pass, gate) {
+            return pass;
+        }
+    }
+    unreachable!()
+}
+
+/// Two workers side by side make all steps that are due. The value comes closed.
+pub fn both<T: Turned, G: Gate, R: Threads + Wait + Sync>(
+    rt: &R,
+    alloc: Global,
+    value: T,
+    chan: u8,
+    gate: &G,
+) -> Result<Closed<T>, Refused<T>>
+    requires { (a : Actor) → times a (T.history value) ≤ T.due (T.origin value) a }
+    ensures begun { IfOk result (λ c. closed_from c ≡ value) }
+    ensures origin { IfOk result (λ c. T.origin (closed_value c) ≡ T.origin value) }
+    ensures full { IfOk result (λ c. (a : Actor) → times a (T.history (closed_value c)) ≡ T.due (T.origin value) a) }
+    ensures refused { IfErr result (λ r. r.value ≡ value) }
+{
+    let (shared, task, sweep) = Shared::begin(rt, alloc, value)?;
+    let (task, sweep) = join(
+        rt,
+        || -> Pass<T>
+            requires { IsPassOf shared task }
+            ensures { IsWorkedOut T.due task result }
+        { work(rt, &shared, chan, task, gate) },
+        || -> Pass<T>
+            requires { IsPassOf shared sweep }
+            ensures { IsWorkedOut T.due sweep result }
+        { work(rt, &shared, chan, sweep, gate) },
+    );
+    Ok(shared.close(task, sweep))
+}
