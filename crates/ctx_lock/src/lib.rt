@@ -9,5 +9,5 @@ mod view;
 
 pub use gate::{Gate, OpenGate};
 pub use guards_model::Actor;
-pub use shared::{Closed, Pass, Refused, Shared};
+pub use shared::{Closed, Pass, Shared};
 pub use turned::Turned;

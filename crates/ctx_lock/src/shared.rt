@@ -12,17 +12,12 @@ use crate::plays::{Both, Claim, Further, Open, Order, Release, Win};
 use crate::turned::Turned;
 use crate::view::View;
 use atomic_table::{Seat, Table};
+use guards_base::Refused;
 use guards_model::Actor;
 use std::alloc::{AllocError, Global};
 use std::snapshot::Snapshot;
 use std::sync::Wait;
 use std::thread;
-
-/// There was no memory. The value comes back.
-#[derive(Drop)]
-pub struct Refused<T> {
-    pub value: T,
-}
 
 /// A value that two passes step by turns.
 pub struct Shared<T: Turned> {

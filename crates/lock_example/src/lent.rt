@@ -6,7 +6,8 @@ ghost use Rattle.lock_example.specs.Parts.{part};
 
 use crate::score::Score;
 use crate::workers::both;
-use ctx_lock::{Actor, Gate, Refused, Turned};
+use ctx_lock::{Actor, Gate, Turned};
+use guards_base::Refused;
 use std::alloc::Global;
 use std::sync::Wait;
 use std::thread::Threads;

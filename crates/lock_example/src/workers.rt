@@ -4,7 +4,8 @@ ghost use Rattle.guards_model.specs.declared.Actor.{Actor};
 ghost use Rattle.ctx_lock.specs.History.{times};
 ghost use Rattle.ctx_lock.specs.Handles.{closed_value, closed_from, IsPassOf, IsWorkedOut};
 
-use ctx_lock::{Actor, Closed, Gate, Pass, Refused, Shared, Turned};
+use ctx_lock::{Closed, Gate, Pass, Shared, Turned};
+use guards_base::Refused;
 use std::alloc::Global;
 use std::sync::Wait;
 use std::thread::{Threads, join};
