@@ -4,6 +4,7 @@
 mod channel;
 mod flags;
 mod list;
+mod record;
 mod refused;
 mod rules;
 mod text;
@@ -12,6 +13,7 @@ mod word;
 pub use channel::{CHANNELS, Chan, ChanSet};
 pub use guards_model::{Law, Mode, Slot};
 pub use list::{Bytes, Numbers, Sequence, Words};
+pub use record::{ChannelLine, CycleRecord, Lines, TraceLine, Traces};
 pub use refused::Refused;
 pub use rules::Rules;
 pub use text::Text;
