@@ -224,7 +224,6 @@ IMPORTS = """Rattle.std.specs.Prelude: ℕ List [] ◌∷◌ ◌++◌ Option Som
 Rattle.guards_model.specs.declared.Slot.TheVariants: Request Round1 Round2 Round3 Tasks Vote Sweep Final Switch
 Rattle.guards_model.specs.declared.Op.TheVariants: Add
 Rattle.guards_model.specs.declared.Law.TheVariants: Multiply Subtract
-Rattle.guards_model.specs.declared.Actor: Actor
 Rattle.guards_model.specs.declared.Actor.TheVariants as step
 Rattle.guards_model.specs.Contexts: ContextValue zero_block zeroed
 Rattle.guards_model.specs.Expressions: number input block_word binary
@@ -232,7 +231,6 @@ Rattle.guards_model.specs.Faults: crash restart damage bus
 Rattle.guards_model.specs.BusRules: lose forge
 Rattle.guards_model.specs.Missions: MissionValue
 Rattle.guards_model.specs.Network: Log
-Rattle.guards_model.specs.Channels: place_or
 Rattle.guards_model.specs.Frames: FinalValue
 Rattle.guards_model.specs.Rounds: Histories
 Rattle.guards_model.specs.Replicas: ReplicaValue
@@ -271,6 +269,12 @@ def text(lines):
     return '\n    ++ '.join('codes "%s\\n"' % line for line in lines)
 
 
+def histories(run, cycles):
+    steps = lambda c, q: items('step.Task' if s == 'T' else 'step.Sweep' for s in run.steps.get((c, q), ''))
+    channels = range(run.mission['channels'])
+    return ' ∷\n    '.join(['(' + items(f'({steps(c, q)})' for q in channels) + ')' for c in reversed(cycles)] + ['[]'])
+
+
 def module(title, run, traced):
     out = f'abbrev pub mission : MissionValue\nmission =\n    {mission(run)}\n\n'
     cycles = sorted({e[0] for e in run.log})
@@ -278,10 +282,7 @@ def module(title, run, traced):
         lines = entries([e for e in run.log if e[0] == c])
         out += f'abbrev pub entries_{c} : Log\nentries_{c} =\n    ' + '\n    ++ '.join(lines) + '\n\n'
     out += 'abbrev pub log : Log\nlog = ' + ' ++ '.join(f'entries_{c}' for c in cycles) + '\n\n'
-    steps = lambda c, q: items('step.Task' if s == 'T' else 'step.Sweep' for s in run.steps.get((c, q), ''))
-    rows = ('(' + items('(' + steps(c, q) + ')' for q in range(run.mission['channels'])) + ')' for c in cycles)
-    out += f'abbrev pub histories : List (List (List Actor))\nhistories =\n    {items(rows)}\n\n'
-    out += 'abbrev pub history : Histories\nhistory = λ c q. place_or (place_or histories c []) q []\n\n'
+    out += f'-- the latest cycle stands first\nabbrev pub histories : Histories\nhistories =\n    {histories(run, cycles)}\n\n'
     out += f'abbrev pub text : List ℕ\ntext =\n    {text(run.report)}\n'
     if traced:
         out += f'\nabbrev pub traced_text : List ℕ\ntraced_text =\n    {text(run.traced)}\n'
@@ -327,13 +328,13 @@ def is_stopped(run):
 
 def clauses(name, run):
     row = f'{name}_row'
-    facts = f'{row}.mission {row}.log {row}.history {row}.text'
+    facts = f'{row}.mission {row}.log {row}.histories {row}.text'
     if is_stopped(run):
         cycle, at = run.stop_at
         return [('stopped', f'IsWorkedStop {row}.mission {row}.log {row}.text {cycle} {slot(at)}')]
     found = [('run', f'IsWorked {facts}')]
     if name in TRACED:
-        found.append(('traces', f'traced {row}.mission {row}.log {row}.history ≡ {row}.traced_text'))
+        found.append(('traces', f'traced {row}.mission {row}.log {row}.histories ≡ {row}.traced_text'))
     for c, q in sorted(run.joins):
         join = f'{row}.replica_{q} {row}.content_{q} {row}.context_{q}'
         found.append((f'joined_{q}', f'Joins {row}.mission {row}.log {q} {c} {join}'))
@@ -380,7 +381,7 @@ def computed(*fields):
 
 MISSION = ('record { rules = refl; cycles = refl; width = refl; return_after = refl; initial = refl; table = refl; '
            'outputs = refl; sensors = refl; script = refl }')
-RUN = 'run_if row.mission row.log row.history row.mission.cycles refl refl refl'
+RUN = 'run_if row.mission row.log row.histories row.mission.cycles refl refl refl'
 VALUES = {
     'run': f'mission = {MISSION}; run = {RUN}; ' + computed('reported', 'sent', 'scripted', 'switches'),
     'joined': computed('whole', 'replica', 'content', 'context', 'ideal', 'control'),
@@ -392,7 +393,7 @@ def answer(label, run):
     """the proof of a clause: every fact of it is computed"""
     if label == 'stopped':
         cycle, at = run.stop_at
-        due = f'stopped_if row.mission row.log row.history {cycle} {slot(at)} refl refl refl'
+        due = f'stopped_if row.mission row.log row.histories {cycle} {slot(at)} refl refl refl'
         return f'record {{ mission = {MISSION}; due = {due}; reported = refl; scripted = refl }}'
     kind = label.split('_')[0] if label.startswith('joined') else label
     return f'record {{ {VALUES[kind]} }}' if kind in VALUES else 'refl'

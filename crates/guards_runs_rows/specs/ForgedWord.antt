@@ -4,7 +4,6 @@ use Rattle.std.specs.Prelude.{ℕ, List, [], ◌∷◌, ◌++◌, Some, None, po
 use Rattle.guards_model.specs.declared.Slot.TheVariants.{Round1, Round2, Vote, Switch}
 use Rattle.guards_model.specs.declared.Op.TheVariants.{Add}
 use Rattle.guards_model.specs.declared.Law.TheVariants.{Multiply}
-use Rattle.guards_model.specs.declared.Actor.{Actor}
 use Rattle.guards_model.specs.declared.Actor.TheVariants as step
 use Rattle.guards_model.specs.Contexts.{zeroed}
 use Rattle.guards_model.specs.Expressions.{input, block_word, binary}
@@ -12,7 +11,6 @@ use Rattle.guards_model.specs.Faults.{bus}
 use Rattle.guards_model.specs.BusRules.{forge}
 use Rattle.guards_model.specs.Missions.{MissionValue}
 use Rattle.guards_model.specs.Network.{Log}
-use Rattle.guards_model.specs.Channels.{place_or}
 use Rattle.guards_model.specs.Rounds.{Histories}
 use Rattle.guards_runs_rows.specs.Worked.{hex, carried, forged}
 
@@ -65,12 +63,11 @@ entries_0 =
 abbrev pub log : Log
 log = entries_0
 
-abbrev pub histories : List (List (List Actor))
+-- the latest cycle stands first
+abbrev pub histories : Histories
 histories =
-    ((step.Task ∷ []) ∷ (step.Task ∷ []) ∷ (step.Task ∷ []) ∷ (step.Task ∷ []) ∷ []) ∷ []
-
-abbrev pub history : Histories
-history = λ c q. place_or (place_or histories c []) q []
+    ((step.Task ∷ []) ∷ (step.Task ∷ []) ∷ (step.Task ∷ []) ∷ (step.Task ∷ []) ∷ []) ∷
+    []
 
 abbrev pub text : List ℕ
 text =

@@ -1,5 +1,5 @@
 -- Frames with their bytes, and bytes that are no frame.
-use Rattle.std.specs.Prelude.{ℕ, List, [], ◌∷◌, ◌++◌, Option, Some, None, pos, codes, replicate}
+use Rattle.std.specs.Prelude.{ℕ, List, [], ◌∷◌, ◌++◌, Some, None, pos, codes, replicate}
 use Rattle.guards_model.specs.declared.Law.TheVariants.{Multiply, Subtract}
 use Rattle.guards_model.specs.Missions.{FormatValue}
 use Rattle.guards_model.specs.Frames.{SourceValue, FrameValue, request_body, exchange_body, vote_body, final_body, switch_body}

@@ -4,14 +4,12 @@ use Rattle.std.specs.Prelude.{ℕ, List, [], ◌∷◌, ◌++◌, Some, None, po
 use Rattle.guards_model.specs.declared.Slot.TheVariants.{Request, Round1, Round2, Round3, Vote, Sweep, Final, Switch}
 use Rattle.guards_model.specs.declared.Op.TheVariants.{Add}
 use Rattle.guards_model.specs.declared.Law.TheVariants.{Multiply}
-use Rattle.guards_model.specs.declared.Actor.{Actor}
 use Rattle.guards_model.specs.declared.Actor.TheVariants as step
 use Rattle.guards_model.specs.Contexts.{ContextValue, zero_block, zeroed}
 use Rattle.guards_model.specs.Expressions.{number, block_word, binary}
 use Rattle.guards_model.specs.Faults.{crash, restart}
 use Rattle.guards_model.specs.Missions.{MissionValue}
 use Rattle.guards_model.specs.Network.{Log}
-use Rattle.guards_model.specs.Channels.{place_or}
 use Rattle.guards_model.specs.Frames.{FinalValue}
 use Rattle.guards_model.specs.Rounds.{Histories}
 use Rattle.guards_model.specs.Replicas.{ReplicaValue}
@@ -340,12 +338,19 @@ entries_8 =
 abbrev pub log : Log
 log = entries_0 ++ entries_1 ++ entries_2 ++ entries_3 ++ entries_4 ++ entries_5 ++ entries_6 ++ entries_7 ++ entries_8
 
-abbrev pub histories : List (List (List Actor))
+-- the latest cycle stands first
+abbrev pub histories : Histories
 histories =
-    ((step.Task ∷ []) ∷ (step.Task ∷ []) ∷ (step.Task ∷ []) ∷ (step.Task ∷ []) ∷ (step.Task ∷ []) ∷ ([]) ∷ ([]) ∷ []) ∷ ((step.Task ∷ []) ∷ (step.Task ∷ []) ∷ (step.Task ∷ []) ∷ (step.Task ∷ []) ∷ (step.Task ∷ []) ∷ ([]) ∷ ([]) ∷ []) ∷ ((step.Task ∷ []) ∷ (step.Task ∷ []) ∷ (step.Task ∷ []) ∷ (step.Task ∷ []) ∷ (step.Task ∷ []) ∷ ([]) ∷ ([]) ∷ []) ∷ ((step.Task ∷ step.Sweep ∷ step.Sweep ∷ step.Sweep ∷ []) ∷ (step.Task ∷ step.Sweep ∷ step.Sweep ∷ step.Sweep ∷ []) ∷ (step.Task ∷ step.Sweep ∷ step.Sweep ∷ step.Sweep ∷ []) ∷ (step.Task ∷ step.Sweep ∷ step.Sweep ∷ step.Sweep ∷ []) ∷ (step.Task ∷ step.Sweep ∷ step.Sweep ∷ step.Sweep ∷ []) ∷ ([]) ∷ ([]) ∷ []) ∷ ((step.Task ∷ step.Sweep ∷ step.Sweep ∷ step.Sweep ∷ []) ∷ (step.Task ∷ step.Sweep ∷ step.Sweep ∷ step.Sweep ∷ []) ∷ (step.Task ∷ step.Sweep ∷ step.Sweep ∷ step.Sweep ∷ []) ∷ (step.Task ∷ step.Sweep ∷ step.Sweep ∷ step.Sweep ∷ []) ∷ (step.Task ∷ step.Sweep ∷ step.Sweep ∷ step.Sweep ∷ []) ∷ ([]) ∷ ([]) ∷ []) ∷ ((step.Task ∷ step.Sweep ∷ step.Sweep ∷ step.Sweep ∷ []) ∷ (step.Task ∷ step.Sweep ∷ step.Sweep ∷ step.Sweep ∷ []) ∷ (step.Task ∷ step.Sweep ∷ step.Sweep ∷ step.Sweep ∷ []) ∷ (step.Task ∷ step.Sweep ∷ step.Sweep ∷ step.Sweep ∷ []) ∷ (step.Task ∷ step.Sweep ∷ step.Sweep ∷ step.Sweep ∷ []) ∷ ([]) ∷ ([]) ∷ []) ∷ ((step.Task ∷ step.Sweep ∷ step.Sweep ∷ step.Sweep ∷ []) ∷ (step.Task ∷ step.Sweep ∷ step.Sweep ∷ step.Sweep ∷ []) ∷ (step.Task ∷ step.Sweep ∷ step.Sweep ∷ step.Sweep ∷ []) ∷ (step.Task ∷ step.Sweep ∷ step.Sweep ∷ step.Sweep ∷ []) ∷ (step.Task ∷ step.Sweep ∷ step.Sweep ∷ step.Sweep ∷ []) ∷ (step.Task ∷ step.Sweep ∷ step.Sweep ∷ step.Sweep ∷ []) ∷ ([]) ∷ []) ∷ ((step.Task ∷ step.Sweep ∷ step.Sweep ∷ step.Sweep ∷ []) ∷ (step.Task ∷ step.Sweep ∷ step.Sweep ∷ step.Sweep ∷ []) ∷ (step.Task ∷ step.Sweep ∷ step.Sweep ∷ step.Sweep ∷ []) ∷ (step.Task ∷ step.Sweep ∷ step.Sweep ∷ step.Sweep ∷ []) ∷ (step.Task ∷ step.Sweep ∷ step.Sweep ∷ step.Sweep ∷ []) ∷ (step.Task ∷ step.Sweep ∷ step.Sweep ∷ step.Sweep ∷ []) ∷ ([]) ∷ []) ∷ ((step.Task ∷ step.Sweep ∷ step.Sweep ∷ step.Sweep ∷ []) ∷ (step.Task ∷ step.Sweep ∷ step.Sweep ∷ step.Sweep ∷ []) ∷ (step.Task ∷ step.Sweep ∷ step.Sweep ∷ step.Sweep ∷ []) ∷ (step.Task ∷ step.Sweep ∷ step.Sweep ∷ step.Sweep ∷ []) ∷ (step.Task ∷ step.Sweep ∷ step.Sweep ∷ step.Sweep ∷ []) ∷ (step.Task ∷ step.Sweep ∷ step.Sweep ∷ step.Sweep ∷ []) ∷ ([]) ∷ []) ∷ []
-
-abbrev pub history : Histories
-history = λ c q. place_or (place_or histories c []) q []
+    ((step.Task ∷ step.Sweep ∷ step.Sweep ∷ step.Sweep ∷ []) ∷ (step.Task ∷ step.Sweep ∷ step.Sweep ∷ step.Sweep ∷ []) ∷ (step.Task ∷ step.Sweep ∷ step.Sweep ∷ step.Sweep ∷ []) ∷ (step.Task ∷ step.Sweep ∷ step.Sweep ∷ step.Sweep ∷ []) ∷ (step.Task ∷ step.Sweep ∷ step.Sweep ∷ step.Sweep ∷ []) ∷ (step.Task ∷ step.Sweep ∷ step.Sweep ∷ step.Sweep ∷ []) ∷ ([]) ∷ []) ∷
+    ((step.Task ∷ step.Sweep ∷ step.Sweep ∷ step.Sweep ∷ []) ∷ (step.Task ∷ step.Sweep ∷ step.Sweep ∷ step.Sweep ∷ []) ∷ (step.Task ∷ step.Sweep ∷ step.Sweep ∷ step.Sweep ∷ []) ∷ (step.Task ∷ step.Sweep ∷ step.Sweep ∷ step.Sweep ∷ []) ∷ (step.Task ∷ step.Sweep ∷ step.Sweep ∷ step.Sweep ∷ []) ∷ (step.Task ∷ step.Sweep ∷ step.Sweep ∷ step.Sweep ∷ []) ∷ ([]) ∷ []) ∷
+    ((step.Task ∷ step.Sweep ∷ step.Sweep ∷ step.Sweep ∷ []) ∷ (step.Task ∷ step.Sweep ∷ step.Sweep ∷ step.Sweep ∷ []) ∷ (step.Task ∷ step.Sweep ∷ step.Sweep ∷ step.Sweep ∷ []) ∷ (step.Task ∷ step.Sweep ∷ step.Sweep ∷ step.Sweep ∷ []) ∷ (step.Task ∷ step.Sweep ∷ step.Sweep ∷ step.Sweep ∷ []) ∷ (step.Task ∷ step.Sweep ∷ step.Sweep ∷ step.Sweep ∷ []) ∷ ([]) ∷ []) ∷
+    ((step.Task ∷ step.Sweep ∷ step.Sweep ∷ step.Sweep ∷ []) ∷ (step.Task ∷ step.Sweep ∷ step.Sweep ∷ step.Sweep ∷ []) ∷ (step.Task ∷ step.Sweep ∷ step.Sweep ∷ step.Sweep ∷ []) ∷ (step.Task ∷ step.Sweep ∷ step.Sweep ∷ step.Sweep ∷ []) ∷ (step.Task ∷ step.Sweep ∷ step.Sweep ∷ step.Sweep ∷ []) ∷ ([]) ∷ ([]) ∷ []) ∷
+    ((step.Task ∷ step.Sweep ∷ step.Sweep ∷ step.Sweep ∷ []) ∷ (step.Task ∷ step.Sweep ∷ step.Sweep ∷ step.Sweep ∷ []) ∷ (step.Task ∷ step.Sweep ∷ step.Sweep ∷ step.Sweep ∷ []) ∷ (step.Task ∷ step.Sweep ∷ step.Sweep ∷ step.Sweep ∷ []) ∷ (step.Task ∷ step.Sweep ∷ step.Sweep ∷ step.Sweep ∷ []) ∷ ([]) ∷ ([]) ∷ []) ∷
+    ((step.Task ∷ step.Sweep ∷ step.Sweep ∷ step.Sweep ∷ []) ∷ (step.Task ∷ step.Sweep ∷ step.Sweep ∷ step.Sweep ∷ []) ∷ (step.Task ∷ step.Sweep ∷ step.Sweep ∷ step.Sweep ∷ []) ∷ (step.Task ∷ step.Sweep ∷ step.Sweep ∷ step.Sweep ∷ []) ∷ (step.Task ∷ step.Sweep ∷ step.Sweep ∷ step.Sweep ∷ []) ∷ ([]) ∷ ([]) ∷ []) ∷
+    ((step.Task ∷ []) ∷ (step.Task ∷ []) ∷ (step.Task ∷ []) ∷ (step.Task ∷ []) ∷ (step.Task ∷ []) ∷ ([]) ∷ ([]) ∷ []) ∷
+    ((step.Task ∷ []) ∷ (step.Task ∷ []) ∷ (step.Task ∷ []) ∷ (step.Task ∷ []) ∷ (step.Task ∷ []) ∷ ([]) ∷ ([]) ∷ []) ∷
+    ((step.Task ∷ []) ∷ (step.Task ∷ []) ∷ (step.Task ∷ []) ∷ (step.Task ∷ []) ∷ (step.Task ∷ []) ∷ ([]) ∷ ([]) ∷ []) ∷
+    []
 
 abbrev pub text : List ℕ
 text =

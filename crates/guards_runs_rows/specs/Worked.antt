@@ -50,23 +50,23 @@ forged c slot from receivers sent piece = arriving c slot from receivers sent (S
 abbrev pub AreScripted : MissionValue → Log → Type 0
 AreScripted M L = map (λ e. delivered_by (bus_rules M) e.cycle e.slot e.from e.to e.sent) L ≡ map (λ e. e.delivered) L
 
--- A whole run of a mission, with this log and these histories.
-pub record IsWorked (M : MissionValue) (L : Log) (H : Histories) (text : TextValue) : Type 0 where
+-- A whole run of a mission, with this log and these histories, the latest cycle's first.
+pub record IsWorked (M : MissionValue) (L : Log) (histories : Histories) (text : TextValue) : Type 0 where
   pub mission : IsMission M
   -- it is a run in the sense of the main theorem
   pub run : IsRun M L M.cycles
   -- its report is this text
   pub reported : report M L ≡ text
   -- the pieces on the bus are, byte for byte and in order, those that the channels send by their histories
-  pub sent : all_sent M L H (cycles_before M L M.cycles) ≡ map (λ e. e.sent) L
+  pub sent : all_sent M histories (cycles_before M L M.cycles) ≡ map (λ e. e.sent) L
   pub scripted : AreScripted M L
   -- the switches that are on at the end are those of the active channels
-  pub switches : switches_after M L (cycles_before M L M.cycles) ≡ active_set M (cycles_before M L M.cycles)
+  pub switches : switches_after M (cycles_before M L M.cycles) ≡ active_set M (cycles_before M L M.cycles)
 
 -- A run that stops in a slot of cycle n: its pieces are due up to the end of that slot.
 pub record IsWorkedStop (M : MissionValue) (L : Log) (text : TextValue) (n : ℕ) (slot : Slot) : Type 0 where
   pub mission : IsMission M
-  pub due : AreDueThrough M L (cycles_before M L n) (cycle_at M L n) slot L
+  pub due : AreDueThrough M (cycles_before M L n) (cycle_at M L n) slot L
   pub reported : report M L ≡ text
   pub scripted : AreScripted M L
 
@@ -74,15 +74,15 @@ pub record IsWorkedStop (M : MissionValue) (L : Log) (text : TextValue) (n : ℕ
 -- the ideal one, and the control of the next cycle.
 pub record Joins (M : MissionValue) (L : Log) (q : Channel) (n : ℕ) (filled : ReplicaValue) (taken : FinalValue) (joined : ContextValue) : Type 0 where
   pub whole : is_whole q (cycles_before M L (suc n)) ≡ true
-  pub replica : replica_after M L q (cycles_before M L (suc n)) ≡ filled
-  pub content : content_taken M L q (cycles_before M L n) (cycle_at M L n) ≡ Some taken
-  pub context : context_taken M L q (cycles_before M L n) (cycle_at M L n) ≡ Some joined
+  pub replica : replica_after M q (cycles_before M L (suc n)) ≡ filled
+  pub content : content_taken M q (cycles_before M L n) (cycle_at M L n) ≡ Some taken
+  pub context : context_taken M q (cycles_before M L n) (cycle_at M L n) ≡ Some joined
   pub ideal : (cycle_at M L n).ideal_context ≡ joined
-  pub control : control_taken M L q (cycles_before M L n) (cycle_at M L n) ≡ Some (control_after M (cycles_before M L (suc n)))
+  pub control : control_taken M q (cycles_before M L n) (cycle_at M L n) ≡ Some (control_after M (cycles_before M L (suc n)))
 
 -- A channel is declared joined in cycle n, and is not whole: it takes nothing, and has this mode afterwards.
 pub record IsNotWhole (M : MissionValue) (L : Log) (q : Channel) (n : ℕ) (mode : ModeValue) : Type 0 where
   pub declared : has (cycle_at M L n).joined q ≡ true
   pub whole : is_whole q (cycles_before M L (suc n)) ≡ false
-  pub nothing : content_taken M L q (cycles_before M L n) (cycle_at M L n) ≡ None
+  pub nothing : content_taken M q (cycles_before M L n) (cycle_at M L n) ≡ None
   pub after : mode_after M (cycles_before M L (suc n)) q ≡ mode
