@@ -1,0 +1,5 @@
+pub mod Acts
+pub mod Carrying
+pub mod Buses
+pub mod Indexes
+pub mod Senders

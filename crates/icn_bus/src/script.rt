@@ -1,0 +1,101 @@
+//! The bus that delivers what was sent, except where a rule fits.
+ghost use Rattle.std.specs.Prelude.{◌≡◌, [], IfOk, OnOk, OnErr, option_map};
+ghost use Rattle.guards_model.specs.ScriptedBus.{delivered_by};
+
+use crate::bus::{Bus, Entry, Rule, append, delivered};
+use crate::index::IndexedRules;
+use guards_base::{Bytes, Chan, Sequence};
+use guards_model::Slot;
+use std::alloc::{AllocError, Global};
+use std::marker::Model;
+
+/// A bus that delivers what was sent, except where a rule of its script fits: the first that fits decides.
+#[derive(Drop)]
+pub struct ScriptBus {
+    alloc: Global,
+    log: Sequence<Entry>,
+    rules: IndexedRules,
+}
+
+impl Model for ScriptBus {
+    ghost use Rattle.icn_bus.specs.Buses.{ScriptBusValue};
+
+    ghost Value = { ScriptBusValue };
+
+    ghost view = { λ bus. record { log = bus.log.items; script = bus.rules } };
+}
+
+impl ScriptBus {
+    /// A bus that has carried nothing, without a script.
+    pub fn empty(alloc: Global) -> ScriptBus
+        ensures log { result.log ≡ [] }
+        ensures script { result.script ≡ [] }
+    {
+        ScriptBus {
+            alloc,
+            log: Sequence::new(alloc),
+            rules: IndexedRules::none(alloc),
+        }
+    }
+
+    /// What was carried, the earliest first.
+    pub fn log(&self) -> &[Entry]
+        ensures { result.now ≡ self.now.log }
+    {
+        self.log.as_slice()
+    }
+}
+
+/// What the first rule that fits delivers of a piece.
+fn delivered_of(
+    alloc: Global,
+    rules: &IndexedRules,
+    cycle: u32,
+    slot: Slot,
+    from: Chan,
+    to: u8,
+    sent: &[u8],
+) -> Result<Option<Bytes>, AllocError>
+    ensures { IfOk result (λ piece. option_map (λ bytes. bytes.items) piece ≡ delivered_by rules.now cycle slot from to sent.now) }
+{
+    match rules.first_fitting(cycle, slot, from, to) {
+        None => Ok(Some(Bytes::from_slice(alloc, sent)?)),
+        Some(rule) => delivered(alloc, &rule.act, sent),
+    }
+}
+
+impl Bus for ScriptBus {
+    ghost use Rattle.guards_model.specs.ScriptedBus.{IsScripted};
+
+    ghost log = { λ bus. bus.log };
+
+    ghost script = { λ bus. bus.script };
+
+    ghost may = { IsScripted };
+
+    fn load(&mut self, rules: &[Rule]) -> Result<(), AllocError> {
+        self.rules = IndexedRules::new(self.alloc, rules)?;
+        Ok(())
+    }
+
+    fn carry(
+        &mut self,
+        cycle: u32,
+        slot: Slot,
+        from: Chan,
+        to: u8,
+        sent: &[u8],
+    ) -> Result<Option<Bytes>, AllocError> {
+        let delivered = delivered_of(self.alloc, &self.rules, cycle, slot, from, to, sent)?;
+        let sent = Bytes::from_slice(self.alloc, sent)?;
+        let entry = Entry {
+            cycle,
+            slot,
+            from,
+            to,
+            sent,
+            delivered,
+        };
+        append(self.alloc, &mut self.log, entry)
+    }
+}
