@@ -108,21 +108,21 @@ RUNS = [
 # of these the text with trace lines is computed too
 TRACED = ['restored']
 
-# what else is said of a run: a label, and a fact in which ROW stands for the run's module
+# what else is said of a run: a label, and a fact in which RUN stands for it
 FURTHER = {
-    'not_whole': [('not_whole', 'IsNotWhole ROW.mission ROW.log 4 5 joining')],
+    'not_whole': [('not_whole', 'IsNotWhole RUN 4 5 joining')],
     'down_at_the_end': [
-        ('not_whole', 'IsNotWhole ROW.mission ROW.log 4 5 down'),
-        ('at_the_end', 'mode_after ROW.mission (cycles_before ROW.mission ROW.log 8) 4 ≡ down'),
+        ('not_whole', 'IsNotWhole RUN 4 5 down'),
+        ('at_the_end', 'mode_after RUN.mission (all_of RUN) 4 ≡ down'),
     ],
     'damaged_and_crashed': [
-        ('marked', 'is_damaged (cycle_at ROW.mission ROW.log 1) 2 Tasks ≡ true'),
-        ('mark_ends', 'is_damaged (cycle_at ROW.mission ROW.log 1) 2 Vote ≡ false'),
+        ('marked', 'is_damaged (cycle_of RUN 1) 2 Tasks ≡ true'),
+        ('mark_ends', 'is_damaged (cycle_of RUN 1) 2 Vote ≡ false'),
     ],
     'lost_requests': [
-        ('aborted', '(cycle_at ROW.mission ROW.log 4).transfer ≡ None'),
-        ('names_old_start', 'held_start 4 (cycles_before ROW.mission ROW.log 5) ≡ Some 3'),
-        ('stays_joining', 'joins_since 4 3 (cycles_before ROW.mission ROW.log 7) ≡ true'),
+        ('aborted', '(cycle_of RUN 4).transfer ≡ None'),
+        ('names_old_start', 'held_start 4 (past_of RUN 5) ≡ Some 3'),
+        ('stays_joining', 'joins_since 4 3 (past_of RUN 7) ≡ true'),
     ],
 }
 
@@ -225,16 +225,14 @@ Rattle.guards_model.specs.declared.Slot.TheVariants: Request Round1 Round2 Round
 Rattle.guards_model.specs.declared.Op.TheVariants: Add
 Rattle.guards_model.specs.declared.Law.TheVariants: Multiply Subtract
 Rattle.guards_model.specs.declared.Actor.TheVariants as step
-Rattle.guards_model.specs.Contexts: ContextValue zero_block zeroed
+Rattle.guards_model.specs.Contexts: zero_block zeroed
 Rattle.guards_model.specs.Expressions: number input block_word binary
 Rattle.guards_model.specs.Faults: crash restart damage bus
 Rattle.guards_model.specs.BusRules: lose forge
 Rattle.guards_model.specs.Missions: MissionValue
 Rattle.guards_model.specs.Network: Log
-Rattle.guards_model.specs.Frames: FinalValue
 Rattle.guards_model.specs.Rounds: Histories
-Rattle.guards_model.specs.Replicas: ReplicaValue
-Rattle.guards_runs_rows.specs.Worked: hex carried lost forged"""
+Rattle.guards_runs_rows.specs.Worked: hex carried lost forged WorkedRun WorkedJoin"""
 
 
 def imports(body):
@@ -283,12 +281,18 @@ def module(title, run, traced):
         out += f'abbrev pub entries_{c} : Log\nentries_{c} =\n    ' + '\n    ++ '.join(lines) + '\n\n'
     out += 'abbrev pub log : Log\nlog = ' + ' ++ '.join(f'entries_{c}' for c in cycles) + '\n\n'
     out += f'-- the latest cycle stands first\nabbrev pub histories : Histories\nhistories =\n    {histories(run, cycles)}\n\n'
-    out += f'abbrev pub text : List ℕ\ntext =\n    {text(run.report)}\n'
+    out += f'abbrev pub text : List ℕ\ntext =\n    {text(run.report)}\n' + RUN
     if traced:
         out += f'\nabbrev pub traced_text : List ℕ\ntraced_text =\n    {text(run.traced)}\n'
     for (c, q), join in sorted(run.joins.items()):
         out += join_literals(c, q, join)
     return f'-- Written by tools/worked_runs.py.\n-- {title}\n{imports(out)}{out}'
+
+
+RUN = """
+abbrev pub run : WorkedRun
+run = record { mission = mission; log = log; histories = histories; text = text }
+"""
 
 
 def join_literals(c, q, join):
@@ -297,18 +301,26 @@ def join_literals(c, q, join):
     joined = list(join['replica'])
     for number, words in copies:
         joined[number] = words
-    sets = f'active = {numbers(active)}; fresh = {numbers(fresh)}'
-    control = f'record {{ law = {law_name}; {sets}; counts = {numbers(counts)} }}'
     return f"""
--- channel {q} is declared joined in cycle {c}: what its replica is, what it takes, and what it then has
-abbrev pub replica_{q} : ReplicaValue
-replica_{q} = record {{ have = Some {join['have']}; blocks = {context(join['replica'])} }}
-
-abbrev pub content_{q} : FinalValue
-content_{q} = record {{ target = {target}; start = {start}; copies = {items(map(copy, copies))}; control = {control} }}
-
-abbrev pub context_{q} : ContextValue
-context_{q} = {context(joined)}
+abbrev pub joined_{q} : WorkedJoin
+joined_{q} =
+    record {{
+      channel = {q};
+      cycle = {c};
+      replica = record {{ have = Some {join['have']}; blocks = {context(join['replica'])} }};
+      content = record {{
+        target = {target};
+        start = {start};
+        copies = {items(map(copy, copies))};
+        control = record {{
+          law = {law_name};
+          active = {numbers(active)};
+          fresh = {numbers(fresh)};
+          counts = {numbers(counts)};
+        }};
+      }};
+      context = {context(joined)};
+    }}
 """
 
 
@@ -328,17 +340,14 @@ def is_stopped(run):
 
 def clauses(name, run):
     row = f'{name}_row'
-    facts = f'{row}.mission {row}.log {row}.histories {row}.text'
     if is_stopped(run):
         cycle, at = run.stop_at
-        return [('stopped', f'IsWorkedStop {row}.mission {row}.log {row}.text {cycle} {slot(at)}')]
-    found = [('run', f'IsWorked {facts}')]
+        return [('stopped', f'IsWorkedStop {row}.run {cycle} {slot(at)}')]
+    found = [('run', f'IsWorked {row}.run')]
     if name in TRACED:
         found.append(('traces', f'traced {row}.mission {row}.log {row}.histories ≡ {row}.traced_text'))
-    for c, q in sorted(run.joins):
-        join = f'{row}.replica_{q} {row}.content_{q} {row}.context_{q}'
-        found.append((f'joined_{q}', f'Joins {row}.mission {row}.log {q} {c} {join}'))
-    return found + [(label, fact.replace('ROW', row)) for label, fact in FURTHER.get(name, [])]
+    found += [(f'joined_{q}', f'Joins {row}.run {row}.joined_{q}') for _, q in sorted(run.joins)]
+    return found + [(label, fact.replace('RUN', f'{row}.run')) for label, fact in FURTHER.get(name, [])]
 
 
 LIB_USES = """pub mod frames;
@@ -346,9 +355,9 @@ LIB_USES = """pub mod frames;
 ghost use Rattle.std.specs.Prelude.{◌≡◌, true, false, Some, None};
 ghost use Rattle.guards_model.specs.declared.Slot.TheVariants.{Tasks, Vote};
 ghost use Rattle.guards_model.specs.Modes.{down, joining};
-ghost use Rattle.guards_runs.specs.Cycles.{cycles_before, cycle_at, mode_after, is_damaged, held_start, joins_since};
+ghost use Rattle.guards_runs.specs.Cycles.{mode_after, is_damaged, held_start, joins_since};
 ghost use Rattle.guards_runs.specs.Report.{traced};
-ghost use Rattle.guards_runs_rows.specs.Worked.{IsWorked, IsWorkedStop, Joins, IsNotWhole};
+ghost use Rattle.guards_runs_rows.specs.Worked.{IsWorked, IsWorkedStop, Joins, IsNotWhole, past_of, cycle_of, all_of};
 """
 
 
@@ -381,10 +390,10 @@ def computed(*fields):
 
 MISSION = ('record { rules = refl; cycles = refl; width = refl; return_after = refl; initial = refl; table = refl; '
            'outputs = refl; sensors = refl; script = refl }')
-RUN = 'run_if row.mission row.log row.histories row.mission.cycles refl refl refl'
+IS_RUN = 'run_if row.mission row.log row.histories row.mission.cycles refl refl refl'
 VALUES = {
-    'run': f'mission = {MISSION}; run = {RUN}; ' + computed('reported', 'sent', 'scripted', 'switches'),
-    'joined': computed('whole', 'replica', 'content', 'context', 'ideal', 'control'),
+    'run': f'is_mission = {MISSION}; is_run = {IS_RUN}; ' + computed('reported', 'sent', 'delivered', 'switches'),
+    'joined': computed('whole', 'filled', 'taken', 'joined', 'ideal', 'control'),
     'not_whole': computed('declared', 'whole', 'nothing', 'after'),
 }
 
@@ -394,7 +403,7 @@ def answer(label, run):
     if label == 'stopped':
         cycle, at = run.stop_at
         due = f'stopped_if row.mission row.log row.histories {cycle} {slot(at)} refl refl refl'
-        return f'record {{ mission = {MISSION}; due = {due}; reported = refl; scripted = refl }}'
+        return f'record {{ is_mission = {MISSION}; due = {due}; reported = refl; delivered = refl }}'
     kind = label.split('_')[0] if label.startswith('joined') else label
     return f'record {{ {VALUES[kind]} }}' if kind in VALUES else 'refl'
 

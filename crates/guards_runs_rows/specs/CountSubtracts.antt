@@ -12,7 +12,7 @@ use Rattle.guards_model.specs.BusRules.{lose}
 use Rattle.guards_model.specs.Missions.{MissionValue}
 use Rattle.guards_model.specs.Network.{Log}
 use Rattle.guards_model.specs.Rounds.{Histories}
-use Rattle.guards_runs_rows.specs.Worked.{hex, carried, lost}
+use Rattle.guards_runs_rows.specs.Worked.{hex, carried, lost, WorkedRun}
 
 abbrev pub mission : MissionValue
 mission =
@@ -209,3 +209,6 @@ text =
     ++ codes "ch 4 in 5 vote 5 judged 3 alpha 0,0,0,163840,0\n"
     ++ codes "end removed 3 joined - remaining -\n"
     ++ codes "done 5\n"
+
+abbrev pub run : WorkedRun
+run = record { mission = mission; log = log; histories = histories; text = text }

@@ -5,15 +5,13 @@ use Rattle.guards_model.specs.declared.Slot.TheVariants.{Request, Round1, Round2
 use Rattle.guards_model.specs.declared.Op.TheVariants.{Add}
 use Rattle.guards_model.specs.declared.Law.TheVariants.{Multiply}
 use Rattle.guards_model.specs.declared.Actor.TheVariants as step
-use Rattle.guards_model.specs.Contexts.{ContextValue, zero_block, zeroed}
+use Rattle.guards_model.specs.Contexts.{zero_block, zeroed}
 use Rattle.guards_model.specs.Expressions.{number, block_word, binary}
 use Rattle.guards_model.specs.Faults.{crash, restart, damage}
 use Rattle.guards_model.specs.Missions.{MissionValue}
 use Rattle.guards_model.specs.Network.{Log}
-use Rattle.guards_model.specs.Frames.{FinalValue}
 use Rattle.guards_model.specs.Rounds.{Histories}
-use Rattle.guards_model.specs.Replicas.{ReplicaValue}
-use Rattle.guards_runs_rows.specs.Worked.{hex, carried}
+use Rattle.guards_runs_rows.specs.Worked.{hex, carried, WorkedRun, WorkedJoin}
 
 abbrev pub mission : MissionValue
 mission =
@@ -323,12 +321,25 @@ text =
     ++ codes "end removed - joined - remaining -\n"
     ++ codes "done 9\n"
 
--- channel 2 is declared joined in cycle 7: what its replica is, what it takes, and what it then has
-abbrev pub replica_2 : ReplicaValue
-replica_2 = record { have = Some 5; blocks = (pos 8 ∷ pos 0 ∷ pos 0 ∷ pos 0 ∷ pos 0 ∷ pos 0 ∷ pos 0 ∷ pos 0 ∷ []) ∷ zero_block ∷ zero_block ∷ zero_block ∷ zero_block ∷ zero_block ∷ zero_block ∷ zero_block ∷ [] }
+abbrev pub run : WorkedRun
+run = record { mission = mission; log = log; histories = histories; text = text }
 
-abbrev pub content_2 : FinalValue
-content_2 = record { target = 2; start = 5; copies = record { block = 0; words = (pos 8 ∷ pos 0 ∷ pos 0 ∷ pos 0 ∷ pos 0 ∷ pos 0 ∷ pos 0 ∷ pos 0 ∷ []) } ∷ []; control = record { law = Multiply; active = 0 ∷ 1 ∷ 2 ∷ 3 ∷ 4 ∷ []; fresh = 2 ∷ []; counts = 0 ∷ 0 ∷ 0 ∷ 0 ∷ 0 ∷ 0 ∷ 0 ∷ [] } }
-
-abbrev pub context_2 : ContextValue
-context_2 = (pos 8 ∷ pos 0 ∷ pos 0 ∷ pos 0 ∷ pos 0 ∷ pos 0 ∷ pos 0 ∷ pos 0 ∷ []) ∷ zero_block ∷ zero_block ∷ zero_block ∷ zero_block ∷ zero_block ∷ zero_block ∷ zero_block ∷ []
+abbrev pub joined_2 : WorkedJoin
+joined_2 =
+    record {
+      channel = 2;
+      cycle = 7;
+      replica = record { have = Some 5; blocks = (pos 8 ∷ pos 0 ∷ pos 0 ∷ pos 0 ∷ pos 0 ∷ pos 0 ∷ pos 0 ∷ pos 0 ∷ []) ∷ zero_block ∷ zero_block ∷ zero_block ∷ zero_block ∷ zero_block ∷ zero_block ∷ zero_block ∷ [] };
+      content = record {
+        target = 2;
+        start = 5;
+        copies = record { block = 0; words = (pos 8 ∷ pos 0 ∷ pos 0 ∷ pos 0 ∷ pos 0 ∷ pos 0 ∷ pos 0 ∷ pos 0 ∷ []) } ∷ [];
+        control = record {
+          law = Multiply;
+          active = 0 ∷ 1 ∷ 2 ∷ 3 ∷ 4 ∷ [];
+          fresh = 2 ∷ [];
+          counts = 0 ∷ 0 ∷ 0 ∷ 0 ∷ 0 ∷ 0 ∷ 0 ∷ [];
+        };
+      };
+      context = (pos 8 ∷ pos 0 ∷ pos 0 ∷ pos 0 ∷ pos 0 ∷ pos 0 ∷ pos 0 ∷ pos 0 ∷ []) ∷ zero_block ∷ zero_block ∷ zero_block ∷ zero_block ∷ zero_block ∷ zero_block ∷ zero_block ∷ [];
+    }

@@ -11,7 +11,7 @@ use Rattle.guards_model.specs.Faults.{crash, restart}
 use Rattle.guards_model.specs.Missions.{MissionValue}
 use Rattle.guards_model.specs.Network.{Log}
 use Rattle.guards_model.specs.Rounds.{Histories}
-use Rattle.guards_runs_rows.specs.Worked.{hex, carried}
+use Rattle.guards_runs_rows.specs.Worked.{hex, carried, WorkedRun}
 
 abbrev pub mission : MissionValue
 mission =
@@ -281,3 +281,6 @@ text =
     ++ codes "ch 3 in 5 vote 8 judged 4 alpha 0,0,0,0,131072\n"
     ++ codes "end removed - joined - remaining -\n"
     ++ codes "done 8\n"
+
+abbrev pub run : WorkedRun
+run = record { mission = mission; log = log; histories = histories; text = text }

@@ -12,7 +12,7 @@ use Rattle.guards_model.specs.BusRules.{forge}
 use Rattle.guards_model.specs.Missions.{MissionValue}
 use Rattle.guards_model.specs.Network.{Log}
 use Rattle.guards_model.specs.Rounds.{Histories}
-use Rattle.guards_runs_rows.specs.Worked.{hex, carried, forged}
+use Rattle.guards_runs_rows.specs.Worked.{hex, carried, forged, WorkedRun}
 
 abbrev pub mission : MissionValue
 mission =
@@ -79,3 +79,6 @@ text =
     ++ codes "ch 3 in 7 vote 7 judged - alpha 0,0,0,0\n"
     ++ codes "end removed - joined - remaining -\n"
     ++ codes "done 1\n"
+
+abbrev pub run : WorkedRun
+run = record { mission = mission; log = log; histories = histories; text = text }

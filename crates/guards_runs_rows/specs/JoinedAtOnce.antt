@@ -5,15 +5,13 @@ use Rattle.guards_model.specs.declared.Slot.TheVariants.{Request, Round1, Round2
 use Rattle.guards_model.specs.declared.Op.TheVariants.{Add}
 use Rattle.guards_model.specs.declared.Law.TheVariants.{Multiply}
 use Rattle.guards_model.specs.declared.Actor.TheVariants as step
-use Rattle.guards_model.specs.Contexts.{ContextValue, zero_block, zeroed}
+use Rattle.guards_model.specs.Contexts.{zero_block, zeroed}
 use Rattle.guards_model.specs.Expressions.{number, block_word, binary}
 use Rattle.guards_model.specs.Faults.{crash, restart}
 use Rattle.guards_model.specs.Missions.{MissionValue}
 use Rattle.guards_model.specs.Network.{Log}
-use Rattle.guards_model.specs.Frames.{FinalValue}
 use Rattle.guards_model.specs.Rounds.{Histories}
-use Rattle.guards_model.specs.Replicas.{ReplicaValue}
-use Rattle.guards_runs_rows.specs.Worked.{hex, carried}
+use Rattle.guards_runs_rows.specs.Worked.{hex, carried, WorkedRun, WorkedJoin}
 
 abbrev pub mission : MissionValue
 mission =
@@ -418,12 +416,25 @@ text =
     ++ codes "end removed - joined - remaining -\n"
     ++ codes "done 12\n"
 
--- channel 4 is declared joined in cycle 3: what its replica is, what it takes, and what it then has
-abbrev pub replica_4 : ReplicaValue
-replica_4 = record { have = Some 3; blocks = (pos 4 ∷ pos 0 ∷ pos 0 ∷ pos 0 ∷ pos 0 ∷ pos 0 ∷ pos 0 ∷ pos 0 ∷ []) ∷ zero_block ∷ [] }
+abbrev pub run : WorkedRun
+run = record { mission = mission; log = log; histories = histories; text = text }
 
-abbrev pub content_4 : FinalValue
-content_4 = record { target = 4; start = 3; copies = record { block = 0; words = (pos 4 ∷ pos 0 ∷ pos 0 ∷ pos 0 ∷ pos 0 ∷ pos 0 ∷ pos 0 ∷ pos 0 ∷ []) } ∷ record { block = 1; words = zero_block } ∷ []; control = record { law = Multiply; active = 0 ∷ 1 ∷ 2 ∷ 3 ∷ 4 ∷ []; fresh = 4 ∷ []; counts = 0 ∷ 0 ∷ 0 ∷ 0 ∷ 0 ∷ 0 ∷ 0 ∷ [] } }
-
-abbrev pub context_4 : ContextValue
-context_4 = (pos 4 ∷ pos 0 ∷ pos 0 ∷ pos 0 ∷ pos 0 ∷ pos 0 ∷ pos 0 ∷ pos 0 ∷ []) ∷ zero_block ∷ []
+abbrev pub joined_4 : WorkedJoin
+joined_4 =
+    record {
+      channel = 4;
+      cycle = 3;
+      replica = record { have = Some 3; blocks = (pos 4 ∷ pos 0 ∷ pos 0 ∷ pos 0 ∷ pos 0 ∷ pos 0 ∷ pos 0 ∷ pos 0 ∷ []) ∷ zero_block ∷ [] };
+      content = record {
+        target = 4;
+        start = 3;
+        copies = record { block = 0; words = (pos 4 ∷ pos 0 ∷ pos 0 ∷ pos 0 ∷ pos 0 ∷ pos 0 ∷ pos 0 ∷ pos 0 ∷ []) } ∷ record { block = 1; words = zero_block } ∷ [];
+        control = record {
+          law = Multiply;
+          active = 0 ∷ 1 ∷ 2 ∷ 3 ∷ 4 ∷ [];
+          fresh = 4 ∷ [];
+          counts = 0 ∷ 0 ∷ 0 ∷ 0 ∷ 0 ∷ 0 ∷ 0 ∷ [];
+        };
+      };
+      context = (pos 4 ∷ pos 0 ∷ pos 0 ∷ pos 0 ∷ pos 0 ∷ pos 0 ∷ pos 0 ∷ pos 0 ∷ []) ∷ zero_block ∷ [];
+    }

@@ -5,16 +5,14 @@ use Rattle.guards_model.specs.declared.Slot.TheVariants.{Request, Round1, Round2
 use Rattle.guards_model.specs.declared.Op.TheVariants.{Add}
 use Rattle.guards_model.specs.declared.Law.TheVariants.{Multiply}
 use Rattle.guards_model.specs.declared.Actor.TheVariants as step
-use Rattle.guards_model.specs.Contexts.{ContextValue, zero_block}
+use Rattle.guards_model.specs.Contexts.{zero_block}
 use Rattle.guards_model.specs.Expressions.{number, block_word, binary}
 use Rattle.guards_model.specs.Faults.{crash, restart, bus}
 use Rattle.guards_model.specs.BusRules.{lose}
 use Rattle.guards_model.specs.Missions.{MissionValue}
 use Rattle.guards_model.specs.Network.{Log}
-use Rattle.guards_model.specs.Frames.{FinalValue}
 use Rattle.guards_model.specs.Rounds.{Histories}
-use Rattle.guards_model.specs.Replicas.{ReplicaValue}
-use Rattle.guards_runs_rows.specs.Worked.{hex, carried, lost}
+use Rattle.guards_runs_rows.specs.Worked.{hex, carried, lost, WorkedRun, WorkedJoin}
 
 abbrev pub mission : MissionValue
 mission =
@@ -323,12 +321,25 @@ text =
     ++ codes "end removed - joined - remaining -\n"
     ++ codes "done 9\n"
 
--- channel 4 is declared joined in cycle 7: what its replica is, what it takes, and what it then has
-abbrev pub replica_4 : ReplicaValue
-replica_4 = record { have = Some 5; blocks = (pos 8 ∷ pos 0 ∷ pos 0 ∷ pos 0 ∷ pos 0 ∷ pos 0 ∷ pos 0 ∷ pos 0 ∷ []) ∷ (negsuc 299 ∷ negsuc 298 ∷ negsuc 297 ∷ negsuc 296 ∷ negsuc 295 ∷ negsuc 294 ∷ negsuc 293 ∷ negsuc 292 ∷ []) ∷ (negsuc 199 ∷ negsuc 198 ∷ negsuc 197 ∷ negsuc 196 ∷ negsuc 195 ∷ negsuc 194 ∷ negsuc 193 ∷ negsuc 192 ∷ []) ∷ (negsuc 99 ∷ negsuc 98 ∷ negsuc 97 ∷ negsuc 96 ∷ negsuc 95 ∷ negsuc 94 ∷ negsuc 93 ∷ negsuc 92 ∷ []) ∷ (pos 0 ∷ pos 1 ∷ pos 2 ∷ pos 3 ∷ pos 4 ∷ pos 5 ∷ pos 6 ∷ pos 7 ∷ []) ∷ (pos 100 ∷ pos 101 ∷ pos 102 ∷ pos 103 ∷ pos 104 ∷ pos 105 ∷ pos 106 ∷ pos 107 ∷ []) ∷ (pos 200 ∷ pos 201 ∷ pos 202 ∷ pos 203 ∷ pos 204 ∷ pos 205 ∷ pos 206 ∷ pos 207 ∷ []) ∷ (pos 300 ∷ pos 301 ∷ pos 302 ∷ pos 303 ∷ pos 304 ∷ pos 305 ∷ pos 306 ∷ pos 307 ∷ []) ∷ [] }
+abbrev pub run : WorkedRun
+run = record { mission = mission; log = log; histories = histories; text = text }
 
-abbrev pub content_4 : FinalValue
-content_4 = record { target = 4; start = 5; copies = record { block = 0; words = (pos 8 ∷ pos 0 ∷ pos 0 ∷ pos 0 ∷ pos 0 ∷ pos 0 ∷ pos 0 ∷ pos 0 ∷ []) } ∷ []; control = record { law = Multiply; active = 0 ∷ 1 ∷ 2 ∷ 3 ∷ 4 ∷ []; fresh = 4 ∷ []; counts = 0 ∷ 0 ∷ 0 ∷ 0 ∷ 0 ∷ 0 ∷ 0 ∷ [] } }
-
-abbrev pub context_4 : ContextValue
-context_4 = (pos 8 ∷ pos 0 ∷ pos 0 ∷ pos 0 ∷ pos 0 ∷ pos 0 ∷ pos 0 ∷ pos 0 ∷ []) ∷ (negsuc 299 ∷ negsuc 298 ∷ negsuc 297 ∷ negsuc 296 ∷ negsuc 295 ∷ negsuc 294 ∷ negsuc 293 ∷ negsuc 292 ∷ []) ∷ (negsuc 199 ∷ negsuc 198 ∷ negsuc 197 ∷ negsuc 196 ∷ negsuc 195 ∷ negsuc 194 ∷ negsuc 193 ∷ negsuc 192 ∷ []) ∷ (negsuc 99 ∷ negsuc 98 ∷ negsuc 97 ∷ negsuc 96 ∷ negsuc 95 ∷ negsuc 94 ∷ negsuc 93 ∷ negsuc 92 ∷ []) ∷ (pos 0 ∷ pos 1 ∷ pos 2 ∷ pos 3 ∷ pos 4 ∷ pos 5 ∷ pos 6 ∷ pos 7 ∷ []) ∷ (pos 100 ∷ pos 101 ∷ pos 102 ∷ pos 103 ∷ pos 104 ∷ pos 105 ∷ pos 106 ∷ pos 107 ∷ []) ∷ (pos 200 ∷ pos 201 ∷ pos 202 ∷ pos 203 ∷ pos 204 ∷ pos 205 ∷ pos 206 ∷ pos 207 ∷ []) ∷ (pos 300 ∷ pos 301 ∷ pos 302 ∷ pos 303 ∷ pos 304 ∷ pos 305 ∷ pos 306 ∷ pos 307 ∷ []) ∷ []
+abbrev pub joined_4 : WorkedJoin
+joined_4 =
+    record {
+      channel = 4;
+      cycle = 7;
+      replica = record { have = Some 5; blocks = (pos 8 ∷ pos 0 ∷ pos 0 ∷ pos 0 ∷ pos 0 ∷ pos 0 ∷ pos 0 ∷ pos 0 ∷ []) ∷ (negsuc 299 ∷ negsuc 298 ∷ negsuc 297 ∷ negsuc 296 ∷ negsuc 295 ∷ negsuc 294 ∷ negsuc 293 ∷ negsuc 292 ∷ []) ∷ (negsuc 199 ∷ negsuc 198 ∷ negsuc 197 ∷ negsuc 196 ∷ negsuc 195 ∷ negsuc 194 ∷ negsuc 193 ∷ negsuc 192 ∷ []) ∷ (negsuc 99 ∷ negsuc 98 ∷ negsuc 97 ∷ negsuc 96 ∷ negsuc 95 ∷ negsuc 94 ∷ negsuc 93 ∷ negsuc 92 ∷ []) ∷ (pos 0 ∷ pos 1 ∷ pos 2 ∷ pos 3 ∷ pos 4 ∷ pos 5 ∷ pos 6 ∷ pos 7 ∷ []) ∷ (pos 100 ∷ pos 101 ∷ pos 102 ∷ pos 103 ∷ pos 104 ∷ pos 105 ∷ pos 106 ∷ pos 107 ∷ []) ∷ (pos 200 ∷ pos 201 ∷ pos 202 ∷ pos 203 ∷ pos 204 ∷ pos 205 ∷ pos 206 ∷ pos 207 ∷ []) ∷ (pos 300 ∷ pos 301 ∷ pos 302 ∷ pos 303 ∷ pos 304 ∷ pos 305 ∷ pos 306 ∷ pos 307 ∷ []) ∷ [] };
+      content = record {
+        target = 4;
+        start = 5;
+        copies = record { block = 0; words = (pos 8 ∷ pos 0 ∷ pos 0 ∷ pos 0 ∷ pos 0 ∷ pos 0 ∷ pos 0 ∷ pos 0 ∷ []) } ∷ [];
+        control = record {
+          law = Multiply;
+          active = 0 ∷ 1 ∷ 2 ∷ 3 ∷ 4 ∷ [];
+          fresh = 4 ∷ [];
+          counts = 0 ∷ 0 ∷ 0 ∷ 0 ∷ 0 ∷ 0 ∷ 0 ∷ [];
+        };
+      };
+      context = (pos 8 ∷ pos 0 ∷ pos 0 ∷ pos 0 ∷ pos 0 ∷ pos 0 ∷ pos 0 ∷ pos 0 ∷ []) ∷ (negsuc 299 ∷ negsuc 298 ∷ negsuc 297 ∷ negsuc 296 ∷ negsuc 295 ∷ negsuc 294 ∷ negsuc 293 ∷ negsuc 292 ∷ []) ∷ (negsuc 199 ∷ negsuc 198 ∷ negsuc 197 ∷ negsuc 196 ∷ negsuc 195 ∷ negsuc 194 ∷ negsuc 193 ∷ negsuc 192 ∷ []) ∷ (negsuc 99 ∷ negsuc 98 ∷ negsuc 97 ∷ negsuc 96 ∷ negsuc 95 ∷ negsuc 94 ∷ negsuc 93 ∷ negsuc 92 ∷ []) ∷ (pos 0 ∷ pos 1 ∷ pos 2 ∷ pos 3 ∷ pos 4 ∷ pos 5 ∷ pos 6 ∷ pos 7 ∷ []) ∷ (pos 100 ∷ pos 101 ∷ pos 102 ∷ pos 103 ∷ pos 104 ∷ pos 105 ∷ pos 106 ∷ pos 107 ∷ []) ∷ (pos 200 ∷ pos 201 ∷ pos 202 ∷ pos 203 ∷ pos 204 ∷ pos 205 ∷ pos 206 ∷ pos 207 ∷ []) ∷ (pos 300 ∷ pos 301 ∷ pos 302 ∷ pos 303 ∷ pos 304 ∷ pos 305 ∷ pos 306 ∷ pos 307 ∷ []) ∷ [];
+    }

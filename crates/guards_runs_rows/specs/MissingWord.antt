@@ -12,7 +12,7 @@ use Rattle.guards_model.specs.BusRules.{lose, forge}
 use Rattle.guards_model.specs.Missions.{MissionValue}
 use Rattle.guards_model.specs.Network.{Log}
 use Rattle.guards_model.specs.Rounds.{Histories}
-use Rattle.guards_runs_rows.specs.Worked.{hex, carried, lost, forged}
+use Rattle.guards_runs_rows.specs.Worked.{hex, carried, lost, forged, WorkedRun}
 
 abbrev pub mission : MissionValue
 mission =
@@ -81,3 +81,6 @@ text =
     ++ codes "ch 3 in 9 vote 9 judged 3 alpha 0,0,0,65536\n"
     ++ codes "end removed - joined - remaining -\n"
     ++ codes "done 1\n"
+
+abbrev pub run : WorkedRun
+run = record { mission = mission; log = log; histories = histories; text = text }

@@ -5,15 +5,13 @@ use Rattle.guards_model.specs.declared.Slot.TheVariants.{Request, Round1, Round2
 use Rattle.guards_model.specs.declared.Op.TheVariants.{Add}
 use Rattle.guards_model.specs.declared.Law.TheVariants.{Multiply}
 use Rattle.guards_model.specs.declared.Actor.TheVariants as step
-use Rattle.guards_model.specs.Contexts.{ContextValue, zero_block, zeroed}
+use Rattle.guards_model.specs.Contexts.{zero_block, zeroed}
 use Rattle.guards_model.specs.Expressions.{number, block_word, binary}
 use Rattle.guards_model.specs.Faults.{crash, restart}
 use Rattle.guards_model.specs.Missions.{MissionValue}
 use Rattle.guards_model.specs.Network.{Log}
-use Rattle.guards_model.specs.Frames.{FinalValue}
 use Rattle.guards_model.specs.Rounds.{Histories}
-use Rattle.guards_model.specs.Replicas.{ReplicaValue}
-use Rattle.guards_runs_rows.specs.Worked.{hex, carried}
+use Rattle.guards_runs_rows.specs.Worked.{hex, carried, WorkedRun, WorkedJoin}
 
 abbrev pub mission : MissionValue
 mission =
@@ -567,22 +565,45 @@ text =
     ++ codes "end removed - joined - remaining -\n"
     ++ codes "done 12\n"
 
--- channel 5 is declared joined in cycle 5: what its replica is, what it takes, and what it then has
-abbrev pub replica_5 : ReplicaValue
-replica_5 = record { have = Some 3; blocks = (pos 6 ∷ pos 0 ∷ pos 0 ∷ pos 0 ∷ pos 0 ∷ pos 0 ∷ pos 0 ∷ pos 0 ∷ []) ∷ zero_block ∷ zero_block ∷ zero_block ∷ zero_block ∷ zero_block ∷ zero_block ∷ zero_block ∷ [] }
+abbrev pub run : WorkedRun
+run = record { mission = mission; log = log; histories = histories; text = text }
 
-abbrev pub content_5 : FinalValue
-content_5 = record { target = 5; start = 3; copies = record { block = 0; words = (pos 6 ∷ pos 0 ∷ pos 0 ∷ pos 0 ∷ pos 0 ∷ pos 0 ∷ pos 0 ∷ pos 0 ∷ []) } ∷ []; control = record { law = Multiply; active = 0 ∷ 1 ∷ 2 ∷ 3 ∷ 4 ∷ 5 ∷ []; fresh = 5 ∷ []; counts = 0 ∷ 0 ∷ 0 ∷ 0 ∷ 0 ∷ 0 ∷ 0 ∷ [] } }
+abbrev pub joined_5 : WorkedJoin
+joined_5 =
+    record {
+      channel = 5;
+      cycle = 5;
+      replica = record { have = Some 3; blocks = (pos 6 ∷ pos 0 ∷ pos 0 ∷ pos 0 ∷ pos 0 ∷ pos 0 ∷ pos 0 ∷ pos 0 ∷ []) ∷ zero_block ∷ zero_block ∷ zero_block ∷ zero_block ∷ zero_block ∷ zero_block ∷ zero_block ∷ [] };
+      content = record {
+        target = 5;
+        start = 3;
+        copies = record { block = 0; words = (pos 6 ∷ pos 0 ∷ pos 0 ∷ pos 0 ∷ pos 0 ∷ pos 0 ∷ pos 0 ∷ pos 0 ∷ []) } ∷ [];
+        control = record {
+          law = Multiply;
+          active = 0 ∷ 1 ∷ 2 ∷ 3 ∷ 4 ∷ 5 ∷ [];
+          fresh = 5 ∷ [];
+          counts = 0 ∷ 0 ∷ 0 ∷ 0 ∷ 0 ∷ 0 ∷ 0 ∷ [];
+        };
+      };
+      context = (pos 6 ∷ pos 0 ∷ pos 0 ∷ pos 0 ∷ pos 0 ∷ pos 0 ∷ pos 0 ∷ pos 0 ∷ []) ∷ zero_block ∷ zero_block ∷ zero_block ∷ zero_block ∷ zero_block ∷ zero_block ∷ zero_block ∷ [];
+    }
 
-abbrev pub context_5 : ContextValue
-context_5 = (pos 6 ∷ pos 0 ∷ pos 0 ∷ pos 0 ∷ pos 0 ∷ pos 0 ∷ pos 0 ∷ pos 0 ∷ []) ∷ zero_block ∷ zero_block ∷ zero_block ∷ zero_block ∷ zero_block ∷ zero_block ∷ zero_block ∷ []
-
--- channel 6 is declared joined in cycle 8: what its replica is, what it takes, and what it then has
-abbrev pub replica_6 : ReplicaValue
-replica_6 = record { have = Some 6; blocks = (pos 9 ∷ pos 0 ∷ pos 0 ∷ pos 0 ∷ pos 0 ∷ pos 0 ∷ pos 0 ∷ pos 0 ∷ []) ∷ zero_block ∷ zero_block ∷ zero_block ∷ zero_block ∷ zero_block ∷ zero_block ∷ zero_block ∷ [] }
-
-abbrev pub content_6 : FinalValue
-content_6 = record { target = 6; start = 6; copies = record { block = 0; words = (pos 9 ∷ pos 0 ∷ pos 0 ∷ pos 0 ∷ pos 0 ∷ pos 0 ∷ pos 0 ∷ pos 0 ∷ []) } ∷ []; control = record { law = Multiply; active = 0 ∷ 1 ∷ 2 ∷ 3 ∷ 4 ∷ 5 ∷ 6 ∷ []; fresh = 6 ∷ []; counts = 0 ∷ 0 ∷ 0 ∷ 0 ∷ 0 ∷ 0 ∷ 0 ∷ [] } }
-
-abbrev pub context_6 : ContextValue
-context_6 = (pos 9 ∷ pos 0 ∷ pos 0 ∷ pos 0 ∷ pos 0 ∷ pos 0 ∷ pos 0 ∷ pos 0 ∷ []) ∷ zero_block ∷ zero_block ∷ zero_block ∷ zero_block ∷ zero_block ∷ zero_block ∷ zero_block ∷ []
+abbrev pub joined_6 : WorkedJoin
+joined_6 =
+    record {
+      channel = 6;
+      cycle = 8;
+      replica = record { have = Some 6; blocks = (pos 9 ∷ pos 0 ∷ pos 0 ∷ pos 0 ∷ pos 0 ∷ pos 0 ∷ pos 0 ∷ pos 0 ∷ []) ∷ zero_block ∷ zero_block ∷ zero_block ∷ zero_block ∷ zero_block ∷ zero_block ∷ zero_block ∷ [] };
+      content = record {
+        target = 6;
+        start = 6;
+        copies = record { block = 0; words = (pos 9 ∷ pos 0 ∷ pos 0 ∷ pos 0 ∷ pos 0 ∷ pos 0 ∷ pos 0 ∷ pos 0 ∷ []) } ∷ [];
+        control = record {
+          law = Multiply;
+          active = 0 ∷ 1 ∷ 2 ∷ 3 ∷ 4 ∷ 5 ∷ 6 ∷ [];
+          fresh = 6 ∷ [];
+          counts = 0 ∷ 0 ∷ 0 ∷ 0 ∷ 0 ∷ 0 ∷ 0 ∷ [];
+        };
+      };
+      context = (pos 9 ∷ pos 0 ∷ pos 0 ∷ pos 0 ∷ pos 0 ∷ pos 0 ∷ pos 0 ∷ pos 0 ∷ []) ∷ zero_block ∷ zero_block ∷ zero_block ∷ zero_block ∷ zero_block ∷ zero_block ∷ zero_block ∷ [];
+    }

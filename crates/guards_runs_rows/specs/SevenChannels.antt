@@ -12,7 +12,7 @@ use Rattle.guards_model.specs.BusRules.{lose, forge}
 use Rattle.guards_model.specs.Missions.{MissionValue}
 use Rattle.guards_model.specs.Network.{Log}
 use Rattle.guards_model.specs.Rounds.{Histories}
-use Rattle.guards_runs_rows.specs.Worked.{hex, carried, lost, forged}
+use Rattle.guards_runs_rows.specs.Worked.{hex, carried, lost, forged, WorkedRun}
 
 abbrev pub mission : MissionValue
 mission =
@@ -109,3 +109,6 @@ text =
     ++ codes "ch 6 in 10 vote 10 judged 5 alpha 0,0,0,0,0,65536,0\n"
     ++ codes "end removed - joined - remaining -\n"
     ++ codes "done 1\n"
+
+abbrev pub run : WorkedRun
+run = record { mission = mission; log = log; histories = histories; text = text }

@@ -12,7 +12,7 @@ use Rattle.guards_model.specs.BusRules.{lose, forge}
 use Rattle.guards_model.specs.Missions.{MissionValue}
 use Rattle.guards_model.specs.Network.{Log}
 use Rattle.guards_model.specs.Rounds.{Histories}
-use Rattle.guards_runs_rows.specs.Worked.{hex, carried, lost, forged}
+use Rattle.guards_runs_rows.specs.Worked.{hex, carried, lost, forged, WorkedRun}
 
 abbrev pub mission : MissionValue
 mission =
@@ -95,3 +95,6 @@ abbrev pub text : List ℕ
 text =
     codes "guards channels 7 cycles 1\n"
     ++ codes "stop cycle 0 slot vote disturbed 4,5,6 active 0,1,2,3,4,5,6\n"
+
+abbrev pub run : WorkedRun
+run = record { mission = mission; log = log; histories = histories; text = text }

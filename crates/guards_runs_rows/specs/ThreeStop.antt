@@ -12,7 +12,7 @@ use Rattle.guards_model.specs.BusRules.{lose}
 use Rattle.guards_model.specs.Missions.{MissionValue}
 use Rattle.guards_model.specs.Network.{Log}
 use Rattle.guards_model.specs.Rounds.{Histories}
-use Rattle.guards_runs_rows.specs.Worked.{hex, carried, lost}
+use Rattle.guards_runs_rows.specs.Worked.{hex, carried, lost, WorkedRun}
 
 abbrev pub mission : MissionValue
 mission =
@@ -63,3 +63,6 @@ abbrev pub text : List ℕ
 text =
     codes "guards channels 3 cycles 2\n"
     ++ codes "stop cycle 0 slot vote disturbed 2 active 0,1,2\n"
+
+abbrev pub run : WorkedRun
+run = record { mission = mission; log = log; histories = histories; text = text }

@@ -10,7 +10,7 @@ use Rattle.guards_model.specs.Expressions.{input, block_word, binary}
 use Rattle.guards_model.specs.Missions.{MissionValue}
 use Rattle.guards_model.specs.Network.{Log}
 use Rattle.guards_model.specs.Rounds.{Histories}
-use Rattle.guards_runs_rows.specs.Worked.{hex, carried}
+use Rattle.guards_runs_rows.specs.Worked.{hex, carried, WorkedRun}
 
 abbrev pub mission : MissionValue
 mission =
@@ -101,3 +101,6 @@ text =
     ++ codes "ch 3 in 5 vote 10 judged - alpha 0,0,0,0\n"
     ++ codes "end removed - joined - remaining -\n"
     ++ codes "done 2\n"
+
+abbrev pub run : WorkedRun
+run = record { mission = mission; log = log; histories = histories; text = text }

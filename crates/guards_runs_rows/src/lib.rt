@@ -8,9 +8,9 @@ pub mod frames;
 ghost use Rattle.std.specs.Prelude.{◌≡◌, true, false, Some, None};
 ghost use Rattle.guards_model.specs.declared.Slot.TheVariants.{Tasks, Vote};
 ghost use Rattle.guards_model.specs.Modes.{down, joining};
-ghost use Rattle.guards_runs.specs.Cycles.{cycles_before, cycle_at, mode_after, is_damaged, held_start, joins_since};
+ghost use Rattle.guards_runs.specs.Cycles.{mode_after, is_damaged, held_start, joins_since};
 ghost use Rattle.guards_runs.specs.Report.{traced};
-ghost use Rattle.guards_runs_rows.specs.Worked.{IsWorked, IsWorkedStop, Joins, IsNotWhole};
+ghost use Rattle.guards_runs_rows.specs.Worked.{IsWorked, IsWorkedStop, Joins, IsNotWhole, past_of, cycle_of, all_of};
 ghost use Rattle.guards_runs_rows.specs.TwoCycles as two_cycles_row;
 ghost use Rattle.guards_runs_rows.specs.LowerMedian as lower_median_row;
 ghost use Rattle.guards_runs_rows.specs.ForgedWord as forged_word_row;
@@ -39,149 +39,149 @@ ghost use Rattle.guards_runs_rows.specs.DownAtTheEnd as down_at_the_end_row;
 
 /// Two cycles without faults.
 pub fn two_cycles()
-    ensures { IsWorked two_cycles_row.mission two_cycles_row.log two_cycles_row.histories two_cycles_row.text }
+    ensures { IsWorked two_cycles_row.run }
 {}
 
 /// The input is the lower median of the four sensors.
 pub fn lower_median()
-    ensures { IsWorked lower_median_row.mission lower_median_row.log lower_median_row.histories lower_median_row.text }
+    ensures { IsWorked lower_median_row.run }
 {}
 
 /// A word that one source sends differently to one channel is settled alike by all.
 pub fn forged_word()
-    ensures { IsWorked forged_word_row.mission forged_word_row.log forged_word_row.histories forged_word_row.text }
+    ensures { IsWorked forged_word_row.run }
 {}
 
 /// A word that no majority of the branches tells is missing, and its source is judged.
 pub fn missing_word()
-    ensures { IsWorked missing_word_row.mission missing_word_row.log missing_word_row.histories missing_word_row.text }
+    ensures { IsWorked missing_word_row.run }
 {}
 
 /// A channel that one other accuses is not judged, since one accusation is not enough.
 pub fn one_accuser()
-    ensures { IsWorked one_accuser_row.mission one_accuser_row.log one_accuser_row.histories one_accuser_row.text }
+    ensures { IsWorked one_accuser_row.run }
 {}
 
 /// A channel whose relays are lost agrees with the others.
 pub fn lost_relays()
-    ensures { IsWorked lost_relays_row.mission lost_relays_row.log lost_relays_row.histories lost_relays_row.text }
+    ensures { IsWorked lost_relays_row.run }
 {}
 
 /// Seven channels agree although two of them are disturbed.
 pub fn seven_channels()
-    ensures { IsWorked seven_channels_row.mission seven_channels_row.log seven_channels_row.histories seven_channels_row.text }
+    ensures { IsWorked seven_channels_row.run }
 {}
 
 /// Seven channels of which three are disturbed stop in the slot of the third.
 pub fn seven_stop()
-    ensures { IsWorkedStop seven_stop_row.mission seven_stop_row.log seven_stop_row.text 0 Vote }
+    ensures { IsWorkedStop seven_stop_row.run 0 Vote }
 {}
 
 /// Three channels stop where one is disturbed.
 pub fn three_stop()
-    ensures { IsWorkedStop three_stop_row.mission three_stop_row.log three_stop_row.text 0 Vote }
+    ensures { IsWorkedStop three_stop_row.run 0 Vote }
 {}
 
 /// An alpha-count rises, decays, is rounded down and reaches the threshold.
 pub fn count_decays()
-    ensures { IsWorked count_decays_row.mission count_decays_row.log count_decays_row.histories count_decays_row.text }
+    ensures { IsWorked count_decays_row.run }
 {}
 
 /// An alpha-count under the law of subtraction, in frames of version 2.
 pub fn count_subtracts()
-    ensures { IsWorked count_subtracts_row.mission count_subtracts_row.log count_subtracts_row.histories count_subtracts_row.text }
+    ensures { IsWorked count_subtracts_row.run }
 {}
 
 /// Three channels stay active, whatever the counts.
 pub fn three_remain()
-    ensures { IsWorked three_remain_row.mission three_remain_row.log three_remain_row.histories three_remain_row.text }
+    ensures { IsWorked three_remain_row.run }
 {}
 
 /// A channel crashes, asks, is restored while the tasks run, and votes with the others.
 pub fn restored()
-    ensures run { IsWorked restored_row.mission restored_row.log restored_row.histories restored_row.text }
+    ensures run { IsWorked restored_row.run }
     ensures traces { traced restored_row.mission restored_row.log restored_row.histories ≡ restored_row.traced_text }
-    ensures joined_4 { Joins restored_row.mission restored_row.log 4 5 restored_row.replica_4 restored_row.content_4 restored_row.context_4 }
+    ensures joined_4 { Joins restored_row.run restored_row.joined_4 }
 {}
 
 /// A channel is restored in frames of version 2, whose control word names the law.
 pub fn restored_by_subtraction()
-    ensures run { IsWorked restored_by_subtraction_row.mission restored_by_subtraction_row.log restored_by_subtraction_row.histories restored_by_subtraction_row.text }
-    ensures joined_4 { Joins restored_by_subtraction_row.mission restored_by_subtraction_row.log 4 5 restored_by_subtraction_row.replica_4 restored_by_subtraction_row.content_4 restored_by_subtraction_row.context_4 }
+    ensures run { IsWorked restored_by_subtraction_row.run }
+    ensures joined_4 { Joins restored_by_subtraction_row.run restored_by_subtraction_row.joined_4 }
 {}
 
 /// Lost sweep frames and a forged final frame of one channel change nothing.
 pub fn silent_sender()
-    ensures run { IsWorked silent_sender_row.mission silent_sender_row.log silent_sender_row.histories silent_sender_row.text }
-    ensures joined_4 { Joins silent_sender_row.mission silent_sender_row.log 4 5 silent_sender_row.replica_4 silent_sender_row.content_4 silent_sender_row.context_4 }
+    ensures run { IsWorked silent_sender_row.run }
+    ensures joined_4 { Joins silent_sender_row.run silent_sender_row.joined_4 }
 {}
 
 /// Where two blocks remain at most, the first cycle of the transfer is its last.
 pub fn joined_at_once()
-    ensures run { IsWorked joined_at_once_row.mission joined_at_once_row.log joined_at_once_row.histories joined_at_once_row.text }
-    ensures joined_4 { Joins joined_at_once_row.mission joined_at_once_row.log 4 3 joined_at_once_row.replica_4 joined_at_once_row.content_4 joined_at_once_row.context_4 }
+    ensures run { IsWorked joined_at_once_row.run }
+    ensures joined_4 { Joins joined_at_once_row.run joined_at_once_row.joined_4 }
 {}
 
 /// A channel that crashes at the start of its transfer asks anew, and the next one restores it.
 pub fn crashed_target()
-    ensures run { IsWorked crashed_target_row.mission crashed_target_row.log crashed_target_row.histories crashed_target_row.text }
-    ensures joined_4 { Joins crashed_target_row.mission crashed_target_row.log 4 7 crashed_target_row.replica_4 crashed_target_row.content_4 crashed_target_row.context_4 }
+    ensures run { IsWorked crashed_target_row.run }
+    ensures joined_4 { Joins crashed_target_row.run crashed_target_row.joined_4 }
 {}
 
 /// A channel that crashed during its transfer is declared joined, is not whole, and comes back later.
 pub fn not_whole()
-    ensures run { IsWorked not_whole_row.mission not_whole_row.log not_whole_row.histories not_whole_row.text }
-    ensures joined_4 { Joins not_whole_row.mission not_whole_row.log 4 10 not_whole_row.replica_4 not_whole_row.content_4 not_whole_row.context_4 }
-    ensures not_whole { IsNotWhole not_whole_row.mission not_whole_row.log 4 5 joining }
+    ensures run { IsWorked not_whole_row.run }
+    ensures joined_4 { Joins not_whole_row.run not_whole_row.joined_4 }
+    ensures not_whole { IsNotWhole not_whole_row.run 4 5 joining }
 {}
 
 /// A damaged context is found by its votes; the channel is removed and restored.
 pub fn damage_found()
-    ensures run { IsWorked damage_found_row.mission damage_found_row.log damage_found_row.histories damage_found_row.text }
-    ensures joined_2 { Joins damage_found_row.mission damage_found_row.log 2 9 damage_found_row.replica_2 damage_found_row.content_2 damage_found_row.context_2 }
+    ensures run { IsWorked damage_found_row.run }
+    ensures joined_2 { Joins damage_found_row.run damage_found_row.joined_2 }
 {}
 
 /// One transfer restores two channels.
 pub fn two_return()
-    ensures run { IsWorked two_return_row.mission two_return_row.log two_return_row.histories two_return_row.text }
-    ensures joined_5 { Joins two_return_row.mission two_return_row.log 5 5 two_return_row.replica_5 two_return_row.content_5 two_return_row.context_5 }
-    ensures joined_6 { Joins two_return_row.mission two_return_row.log 6 5 two_return_row.replica_6 two_return_row.content_6 two_return_row.context_6 }
+    ensures run { IsWorked two_return_row.run }
+    ensures joined_5 { Joins two_return_row.run two_return_row.joined_5 }
+    ensures joined_6 { Joins two_return_row.run two_return_row.joined_6 }
 {}
 
 /// One of two targets crashes; the transfer goes on for the other.
 pub fn one_dropped()
-    ensures run { IsWorked one_dropped_row.mission one_dropped_row.log one_dropped_row.histories one_dropped_row.text }
-    ensures joined_5 { Joins one_dropped_row.mission one_dropped_row.log 5 5 one_dropped_row.replica_5 one_dropped_row.content_5 one_dropped_row.context_5 }
-    ensures joined_6 { Joins one_dropped_row.mission one_dropped_row.log 6 11 one_dropped_row.replica_6 one_dropped_row.content_6 one_dropped_row.context_6 }
+    ensures run { IsWorked one_dropped_row.run }
+    ensures joined_5 { Joins one_dropped_row.run one_dropped_row.joined_5 }
+    ensures joined_6 { Joins one_dropped_row.run one_dropped_row.joined_6 }
 {}
 
 /// Where a transfer restores one channel, two come back one after the other.
 pub fn one_by_one()
-    ensures run { IsWorked one_by_one_row.mission one_by_one_row.log one_by_one_row.histories one_by_one_row.text }
-    ensures joined_5 { Joins one_by_one_row.mission one_by_one_row.log 5 5 one_by_one_row.replica_5 one_by_one_row.content_5 one_by_one_row.context_5 }
-    ensures joined_6 { Joins one_by_one_row.mission one_by_one_row.log 6 8 one_by_one_row.replica_6 one_by_one_row.content_6 one_by_one_row.context_6 }
+    ensures run { IsWorked one_by_one_row.run }
+    ensures joined_5 { Joins one_by_one_row.run one_by_one_row.joined_5 }
+    ensures joined_6 { Joins one_by_one_row.run one_by_one_row.joined_6 }
 {}
 
 /// A transfer is aborted since its requests are lost, and its target, still joining, names the old start.
 pub fn lost_requests()
-    ensures run { IsWorked lost_requests_row.mission lost_requests_row.log lost_requests_row.histories lost_requests_row.text }
-    ensures joined_4 { Joins lost_requests_row.mission lost_requests_row.log 4 7 lost_requests_row.replica_4 lost_requests_row.content_4 lost_requests_row.context_4 }
-    ensures aborted { (cycle_at lost_requests_row.mission lost_requests_row.log 4).transfer ≡ None }
-    ensures names_old_start { held_start 4 (cycles_before lost_requests_row.mission lost_requests_row.log 5) ≡ Some 3 }
-    ensures stays_joining { joins_since 4 3 (cycles_before lost_requests_row.mission lost_requests_row.log 7) ≡ true }
+    ensures run { IsWorked lost_requests_row.run }
+    ensures joined_4 { Joins lost_requests_row.run lost_requests_row.joined_4 }
+    ensures aborted { (cycle_of lost_requests_row.run 4).transfer ≡ None }
+    ensures names_old_start { held_start 4 (past_of lost_requests_row.run 5) ≡ Some 3 }
+    ensures stays_joining { joins_since 4 3 (past_of lost_requests_row.run 7) ≡ true }
 {}
 
 /// A channel is damaged and crashes in one cycle; the crash ends the mark of damage.
 pub fn damaged_and_crashed()
-    ensures run { IsWorked damaged_and_crashed_row.mission damaged_and_crashed_row.log damaged_and_crashed_row.histories damaged_and_crashed_row.text }
-    ensures joined_2 { Joins damaged_and_crashed_row.mission damaged_and_crashed_row.log 2 7 damaged_and_crashed_row.replica_2 damaged_and_crashed_row.content_2 damaged_and_crashed_row.context_2 }
-    ensures marked { is_damaged (cycle_at damaged_and_crashed_row.mission damaged_and_crashed_row.log 1) 2 Tasks ≡ true }
-    ensures mark_ends { is_damaged (cycle_at damaged_and_crashed_row.mission damaged_and_crashed_row.log 1) 2 Vote ≡ false }
+    ensures run { IsWorked damaged_and_crashed_row.run }
+    ensures joined_2 { Joins damaged_and_crashed_row.run damaged_and_crashed_row.joined_2 }
+    ensures marked { is_damaged (cycle_of damaged_and_crashed_row.run 1) 2 Tasks ≡ true }
+    ensures mark_ends { is_damaged (cycle_of damaged_and_crashed_row.run 1) 2 Vote ≡ false }
 {}
 
 /// A channel that is declared joined is down, and stays so to the end of the run.
 pub fn down_at_the_end()
-    ensures run { IsWorked down_at_the_end_row.mission down_at_the_end_row.log down_at_the_end_row.histories down_at_the_end_row.text }
-    ensures not_whole { IsNotWhole down_at_the_end_row.mission down_at_the_end_row.log 4 5 down }
-    ensures at_the_end { mode_after down_at_the_end_row.mission (cycles_before down_at_the_end_row.mission down_at_the_end_row.log 8) 4 ≡ down }
+    ensures run { IsWorked down_at_the_end_row.run }
+    ensures not_whole { IsNotWhole down_at_the_end_row.run 4 5 down }
+    ensures at_the_end { mode_after down_at_the_end_row.run.mission (all_of down_at_the_end_row.run) 4 ≡ down }
 {}
