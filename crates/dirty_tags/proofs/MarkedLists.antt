@@ -9,7 +9,7 @@ use Rattle.std.proofs.lemmas.List.FromFn.{length-range_with_len, get_or-range_wi
 use Rattle.std.proofs.lemmas.List.Sums.{sum_by-cons}
 use Rattle.guards_model.specs.Channels.{has, numbers_below}
 use Rattle.guards_model.specs.Transfers.{remains, remaining_blocks, cyclic_from, cursor_after}
-use Rattle.guards_model.specs.Tags.{TagsValue, blocks_in, tags_of, tags_written, tags_closed, plan_by_tags}
+use Rattle.guards_model.specs.Tags.{TagsValue, blocks_in, tags_of, tags_written, tags_noted, tags_closed, plan_by_tags}
 use Rattle.guards_model.proofs.NumbersBelow.{below_there}
 use Rattle.guards_model.proofs.TagSteps.{filter_alike, kept_test, in_cycle}
 use Rattle.dirty_tags.specs.Marks.{is_marked, marked}
@@ -205,6 +205,15 @@ module _ (blocks cursor : ℕ) (remaining written : List Bool) (t : TagsValue) (
       ap (λ b. seen blocks cursor remaining (set written b true)) e
       ∙ ap (λ ys. record { blocks = blocks; remaining = marked blocks remaining; cursor = cursor; written = ys }) (one_marked blocks written block h)
       ∙ ap (tags_written block) same
+
+  pub seen_noted : (list : List ℕ) (after : List Bool) → blocks ≤ 256 → ((b : ℕ) → b < 256 → is_marked after b ≡ (has list b || is_marked written b)) →
+      seen blocks cursor remaining after ≡ tags_noted list t
+  unfolding tags_noted
+  seen_noted list after most noted =
+      ap (λ ys. record { blocks = blocks; remaining = marked blocks remaining; cursor = cursor; written = ys })
+      (marked_alike blocks after (λ b. has list b || has (marked blocks written) b)
+      (λ b h. noted b (omega arith) ∙ ap (λ w. has list b || w) (sym (has-marked blocks written b h))))
+      ∙ ap (tags_noted list) same
 
   pub seen_plan : (sweep : ℕ) (plan : List ℕ) → cursor < blocks →
       plan ≡ take sweep (take sweep (filter (is_marked remaining) (range_with_len cursor (blocks - cursor))) ++ filter (is_marked remaining) (range_with_len 0 (cursor - 0))) →

@@ -6,6 +6,7 @@ ghost use Rattle.guards_model.specs.Transfers.{cursor_after};
 ghost use Rattle.dirty_tags.specs.Marks.{is_marked};
 
 use crate::Plan;
+use context_blocks::BlockSet;
 
 /// The same mark for every block.
 pub fn filled(value: bool) -> [bool; 256]
@@ -45,6 +46,17 @@ pub fn mark(marks: &mut [bool; 256], written: &[bool; 256])
 {
     for block in 0..256usize {
         if written[block] {
+            marks[block] = true;
+        }
+    }
+}
+
+/// Marks the blocks of a set.
+pub fn mark_all(marks: &mut [bool; 256], blocks: &BlockSet)
+    ensures { (b : ℕ) → b < 256 → is_marked marks.new b ≡ (has blocks.now b || is_marked marks.old b) }
+{
+    for block in 0..256usize {
+        if blocks.has(block as u8) {
             marks[block] = true;
         }
     }

@@ -2,10 +2,11 @@
 ghost use Rattle.std.specs.Prelude.{◌≡◌, ◌<◌, ◌≤◌, ℕ, List, [], ◌∷◌, All, length};
 ghost use Rattle.guards_model.specs.Channels.{has};
 ghost use Rattle.guards_model.specs.Transfers.{TransferCycle, remains, remaining_blocks, planned_blocks};
-ghost use Rattle.guards_model.specs.Tags.{StandFor, tags_of, tags_written, tags_closed, plan_by_tags};
+ghost use Rattle.guards_model.specs.Tags.{StandFor, tags_of, tags_written, tags_noted, tags_closed, plan_by_tags};
 
 use crate::Plan;
-use crate::marks::{count, filled, gather, mark, next_start, unmark};
+use crate::marks::{count, filled, gather, mark, mark_all, next_start, unmark};
+use context_blocks::BlockSet;
 use std::marker::Model;
 
 /// Which blocks of a context remain, the block at which the next plan begins, and the blocks that were written in
@@ -78,6 +79,15 @@ impl Tags {
         ensures blocks { self.new.blocks ≡ self.old.blocks }
     {
         self.written[usize::from(block)] = true;
+    }
+
+    /// Notes writes to all blocks of a set in this cycle.
+    pub fn wrote_all(&mut self, blocks: &BlockSet)
+        ensures tags { self.new ≡ tags_noted blocks.now self.old }
+        ensures cycles { (cycles : List TransferCycle) → StandFor self.old cycles [] → StandFor self.new cycles blocks.now }
+        ensures blocks { self.new.blocks ≡ self.old.blocks }
+    {
+        mark_all(&mut self.written, blocks);
     }
 
     /// Closes a cycle with the plan that it had, and answers how many blocks remain.
