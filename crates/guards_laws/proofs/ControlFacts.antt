@@ -1,20 +1,19 @@
 -- A channel's control decides and closes each cycle as the facts say: its tags stand for the cycles of the transfer.
-use Rattle.std.proofs.Common.{◌≡◌, ℕ, zero, suc, ◌≤◌, ◌<◌, ◌==◌, ◌⊎◌, inl, inr, Bool, true, false, not, ◌&&◌, ◌||◌, List, [], ◌∷◌, length, Option, None, Some, refl, sym, ap, subst, ◌∙◌, eq-eqb, arith}
+use Rattle.std.proofs.Common.{◌≡◌, ℕ, zero, suc, ◌≤◌, ◌<◌, ◌⊎◌, inl, inr, Bool, true, false, not, ◌&&◌, ◌||◌, List, [], ◌∷◌, length, Option, None, Some, refl, sym, ap, subst, ◌∙◌, eq-eqb, arith}
 use Rattle.std.specs.Prelude.{option_map, nat_le, if◌then◌else◌}
-use Rattle.std.proofs.lemmas.Bool.{eqb-true, leb-true, le-leb, ne_eqb}
+use Rattle.std.proofs.lemmas.Bool.{leb-true, le-leb, ne_eqb}
 use Rattle.guards_model.specs.Channels.{ChannelSet, has, numbers_below}
 use Rattle.guards_model.specs.Missions.{MissionValue, written_blocks}
 use Rattle.guards_model.specs.Network.{Log}
 use Rattle.guards_model.specs.Diagnosis.{Agreed, judged_of, counts_of, counts_carried, removed_of}
-use Rattle.guards_model.specs.Transfers.{TransferValue, TransferCycle, remains, remaining_blocks, sweep_cursor, transfer_to, transfer_or, start_of, kept_targets, new_targets, transfer_after, active_after}
+use Rattle.guards_model.specs.Transfers.{TransferValue, TransferCycle, remains, sweep_cursor, transfer_to, transfer_or, start_of, kept_targets, new_targets, transfer_after, active_after}
 use Rattle.guards_model.specs.Decisions.{DecisionValue, joined_of, if_empty}
-use Rattle.guards_model.specs.Tags.{TagsValue, blocks_in, tags_of, tags_noted, tags_closed, plan_by_tags}
+use Rattle.guards_model.specs.Tags.{blocks_in, tags_of, tags_noted, tags_closed}
 use Rattle.guards_model.specs.Controls.{SweepingValue, ControlValue, ClosedValue, transfer_in, tags_for, sweeping_for, planned_by, decided_by, control_decided, tags_after, sweeping_after, joined_by, goes_on, control_closed, start_if_joined, rest_if_joined, closed_by}
 use Rattle.guards_model.specs.Controls as controls
 use Rattle.guards_runs.specs.Cycles.{Cycle, Past, opening_of, agreement_of, decision_of, work_of, entries_of, cycle_from, next_cycle, cycles_before, active_set, fresh_set, base_counts, running_transfer, swept_since, remaining_of, plan_of}
 use Rattle.guards_runs.specs.ControlFacts.{sweeping_of, control_at, if_joined, closed_of, ControlFollows}
 use Rattle.guards_runs.specs.Report.{remaining_in}
-use Rattle.guards_runs.specs.Promises.{EachCycle}
 use Rattle.guards_model.proofs.TagLaw.{remains-step}
 use Rattle.guards_model.proofs.TagSteps.{filter_alike, tags_plan, tags_close, stand_noted}
 

@@ -1,8 +1,8 @@
 -- Entries of later slots change no frame that is owed in a slot, and no stop of it.
-use Rattle.std.proofs.Common.{◌≡◌, ℕ, zero, suc, ◌+◌, ◌-◌, ◌*◌, ◌<◌, ◌≤◌, ◌==◌, ◌⊎◌, inl, inr, Bool, true, false, cond, not, ◌&&◌, ◌||◌, List, [], ◌∷◌, ◌++◌, length, map, Option, None, Some, ℤ, refl, sym, ap, ◌∙◌, eq-eqb, arith}
+use Rattle.std.proofs.Common.{◌≡◌, ℕ, zero, suc, ◌-◌, ◌*◌, ◌<◌, ◌≤◌, ◌==◌, ◌⊎◌, inl, inr, Bool, true, false, cond, not, ◌&&◌, ◌||◌, List, [], ◌∷◌, ◌++◌, length, map, Option, None, ℤ, refl, ap, ◌∙◌, eq-eqb, arith}
 use Rattle.std.specs.Prelude.{nat_le, filter, flat_map, reverse, option_map}
 use Rattle.std.specs.List.{list_all, list_any}
-use Rattle.std.proofs.lemmas.Bool.{ne_eqb, le-leb, leb-true, eqb-true}
+use Rattle.std.proofs.lemmas.Bool.{ne_eqb, leb-true, eqb-true}
 use Rattle.std.proofs.lemmas.List.Folds.{list_any-append}
 use Rattle.guards_model.specs.declared.Slot.{Slot}
 use Rattle.guards_model.specs.declared.Slot.TheVariants.{Request, Round1, Round2, Round3, Tasks, Vote, Sweep, Final, Switch, Output}
@@ -17,14 +17,14 @@ use Rattle.guards_model.specs.Diagnosis.{Agreed, counts_carried}
 use Rattle.guards_model.specs.Transfers.{TransferValue, start_of, active_after}
 use Rattle.guards_model.specs.Decisions.{DecisionValue, joined_of}
 use Rattle.guards_model.specs.Rounds.{Origin, copies_at}
-use Rattle.guards_model.specs.Network.{EntryValue, Log, AreAfter, items_of}
+use Rattle.guards_model.specs.Network.{Log, AreAfter, items_of}
 use Rattle.guards_model.specs.OralMessages.{PathValue, word_for, held_value, items_owed, paths}
 use Rattle.guards_model.specs.Modes.{is_up}
-use Rattle.guards_runs.specs.Cycles.{Cycle, Past, Agreement, first_up, mode_in, is_damaged, source_word, received_items, received_body, items_in, agreed_at, opening_of, agreement_of, decision_of, work_of, cycle_from, ideal_after, remaining_of}
-use Rattle.guards_runs.specs.Disturbed.{is_charge, differs_from, disturbed_channels, halts}
-use Rattle.guards_runs.specs.Due.{Carry, targets_of, context_or_none, copy_from, slot_carries, owed, origin_of, exchange_of, control_after, is_sender, receivers, carries_frames}
+use Rattle.guards_runs.specs.Cycles.{Cycle, Past, Agreement, first_up, mode_in, is_damaged, source_word, received_items, received_body, items_in, opening_of, agreement_of, decision_of, work_of, cycle_from, remaining_of}
+use Rattle.guards_runs.specs.Disturbed.{is_charge, differs_from, disturbed_channels}
+use Rattle.guards_runs.specs.Due.{Carry, targets_of, context_or_none, copy_from, slot_carries, owed, origin_of, exchange_of, control_after, is_sender, receivers}
 use Rattle.guards_runs.specs.SlotFacts.{AreFromPlace, FramesStay, StopStays}
-use Rattle.guards_model.proofs.BoolTests.{both, and_true}
+use Rattle.guards_model.proofs.BoolTests.{both}
 use Rattle.guards_model.proofs.ListTests.{all-filter, all-map, all-append}
 use Rattle.guards_model.proofs.SlotsStay.{slot_stays}
 use Rattle.guards_model.proofs.TagSteps.{filter_alike}

@@ -1,22 +1,20 @@
 -- Who is up is active, three channels stay active, and who is declared joined was passive: whatever the log holds.
-use Rattle.std.proofs.Common.{◌≡◌, ℕ, zero, suc, ◌+◌, ◌-◌, ◌<◌, ◌≤◌, ◌==◌, Bool, true, false, not, ◌&&◌, ◌||◌, List, [], ◌∷◌, length, Option, refl, sym, ap, subst, ◌∙◌, arith, eq-eqb, min}
-use Rattle.std.specs.Prelude.{filter, take, count_by, nat_le}
+use Rattle.std.proofs.Common.{◌≡◌, ℕ, zero, suc, ◌-◌, ◌≤◌, ◌==◌, Bool, true, false, not, ◌||◌, List, [], ◌∷◌, length, refl, sym, ap, subst, ◌∙◌, arith}
+use Rattle.std.specs.Prelude.{filter, take, nat_le}
 use Rattle.std.specs.List.{list_all}
-use Rattle.std.proofs.lemmas.Bool.{leb-true}
 use Rattle.std.proofs.lemmas.List.{length-take}
-use Rattle.std.proofs.lemmas.List.Sums.{length-filter}
 use Rattle.std.proofs.lemmas.List.FromFn.{length-range_with_len}
 use Rattle.guards_model.specs.Channels.{Channel, ChannelSet, has, channels_where, every_channel, numbers_below, union, without}
-use Rattle.guards_model.specs.Missions.{MissionValue, IsMission, within, is_law}
+use Rattle.guards_model.specs.Missions.{MissionValue, IsMission}
 use Rattle.guards_model.specs.Network.{Log}
 use Rattle.guards_model.specs.Frames.{is_set, is_distinct}
-use Rattle.guards_model.specs.Diagnosis.{Agreed, removed_of, asks}
+use Rattle.guards_model.specs.Diagnosis.{asks}
 use Rattle.guards_model.specs.Decisions.{joined_of}
-use Rattle.guards_runs.specs.Cycles.{Cycle, Past, active_set, opening_of, agreement_of, decision_of, work_of, cycle_from, next_cycle, cycles_before, entries_of}
-use Rattle.guards_model.proofs.Tables.{has-filter, has-channels_where, every_has}
+use Rattle.guards_runs.specs.Cycles.{Past, active_set, opening_of, agreement_of, decision_of, work_of, cycle_from, next_cycle, cycles_before}
+use Rattle.guards_model.proofs.Tables.{has-filter, has-channels_where}
 use Rattle.guards_model.proofs.BoolTests.{both, and_true, or_true, or_left}
 use Rattle.guards_model.proofs.Counting.{count-split, count-all, count-within, has-head}
-use Rattle.guards_model.proofs.AscendingLists.{set-filter, set-take, set-where, set-distinct, member-channel, every_is_set}
+use Rattle.guards_model.proofs.AscendingLists.{set-filter, set-take, set-where, set-distinct, member-channel}
 use Rattle.guards_laws.proofs.WithinChannels.{active_is_set}
 use Rattle.guards_laws.proofs.Restoring.{target_joined}
 use Rattle.guards_laws.proofs.OnlyRise.{targets_passive}

@@ -1,5 +1,5 @@
 -- What the facts of a run say of a channel's control. This project's own.
-use Rattle.std.specs.Prelude.{◌≡◌, ℕ, List, [], ◌∷◌, Option, Some, None, option_map}
+use Rattle.std.specs.Prelude.{◌≡◌, ℕ, List, [], ◌∷◌, option_map}
 use Rattle.guards_model.specs.Channels.{ChannelSet, has}
 use Rattle.guards_model.specs.Missions.{MissionValue, written_blocks}
 use Rattle.guards_model.specs.Diagnosis.{Agreed}

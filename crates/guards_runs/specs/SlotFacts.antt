@@ -1,15 +1,17 @@
 -- A cycle under way: what entries of later slots do not change.
-use Rattle.std.specs.Prelude.{◌≡◌, ℕ, suc, ◌≤◌, ◌<◌, ◌⊎◌, ◌++◌, List}
+use Rattle.std.specs.Prelude.{true, ◌≡◌, ℕ, ◌≤◌, ◌<◌, ◌⊎◌, ◌++◌, List}
 use Rattle.std.specs.List.{AllByRecursion}
 use Rattle.guards_model.specs.declared.Slot.{Slot}
 use Rattle.guards_model.specs.declared.Slot.TheVariants.{Sweep}
 use Rattle.guards_model.specs.Slots.{slot_index}
-use Rattle.guards_model.specs.Channels.{Channel}
-use Rattle.guards_model.specs.Missions.{MissionValue}
-use Rattle.guards_model.specs.Network.{EntryValue, Log}
-use Rattle.guards_runs.specs.Cycles.{Past, cycle_from, this_cycle}
+use Rattle.guards_model.specs.Channels.{Channel, has}
+use Rattle.guards_model.specs.Missions.{MissionValue, format_of}
+use Rattle.guards_model.specs.Frames.{in_range}
+use Rattle.guards_model.specs.Rounds.{AreWritesBefore}
+use Rattle.guards_model.specs.Network.{EntryValue, Log, suits}
+use Rattle.guards_runs.specs.Cycles.{Past, Cycle, cycle_from, this_cycle}
 use Rattle.guards_runs.specs.Disturbed.{halts}
-use Rattle.guards_runs.specs.Due.{slot_carries, owed, origin_of}
+use Rattle.guards_runs.specs.Due.{carries_frames, is_sender, receivers, slot_carries, owed, frame_of, origin_of}
 
 -- each entry is of cycle c in the slot at this place or a later one, or of a later cycle
 abbrev pub AreFromPlace : ℕ → ℕ → Log → Type 0
@@ -28,3 +30,17 @@ pub record FramesStay (M : MissionValue) (entries new : Log) (past : Past) (slot
 abbrev pub StopStays : MissionValue → Log → Log → Past → Slot → Type 0
 StopStays M entries new past slot =
     halts (this_cycle past) (cycle_from M (entries ++ new) past) slot ≡ halts (this_cycle past) (cycle_from M entries past) slot
+
+-- A frame is sent in a slot of cycle e, after the past: the slot carries frames, and who sends it and who receives it do so
+-- there. The copies of a sweep frame fell at places that some order of the steps gives.
+pub record IsSent (M : MissionValue) (past : Past) (e : Cycle) (slot : Slot) (from to : ℕ) (places : List ℕ) : Type 0 where
+  pub carries : carries_frames e slot ≡ true
+  pub sender : from < 7
+  pub sends : is_sender e slot from ≡ true
+  pub receives : has (receivers e slot) to ≡ true
+  pub in_order : slot ≡ Sweep → AreWritesBefore (origin_of M past e from) places
+
+-- What is owed has a spelling, and suits its slot and receiver: so what arrives as it was sent counts.
+pub record Counts (M : MissionValue) (past : Past) (e : Cycle) (slot : Slot) (from to : ℕ) (places : List ℕ) : Type 0 where
+  pub spelled : in_range (frame_of M (record { cycle = this_cycle past; slot = slot; from = from; to = to }) (owed M past e slot from to places)) ≡ true
+  pub suiting : suits (format_of M) slot to (owed M past e slot from to places) ≡ true
