@@ -1,0 +1,4 @@
+pub mod Paths
+pub mod Bodies
+pub mod Reads
+pub mod Writes
