@@ -1,5 +1,5 @@
 -- What a report shows of lines whose counts are all 0.
-use Rattle.std.proofs.Common.{◌≡◌, ◌≤◌, ◌+◌, ℕ, zero, suc, ℤ, pos, add-one, add-zero, zero-add, List, [], ◌∷◌, ◌++◌, map, take, replicate, min, Option, Some, None, ap, sym, ◌∙◌, arith}
+use Rattle.std.proofs.Common.{◌≡◌, ◌≤◌, ◌+◌, ℕ, zero, suc, ℤ, pos, add-one, add-zero, zero-add, List, [], ◌∷◌, ◌++◌, map, take, replicate, Some, None, ap, sym, ◌∙◌, arith}
 use Rattle.std.proofs.lemmas.List.{map-append, take-replicate}
 use Rattle.std.specs.List.{range_with_len}
 use Rattle.guards_model.specs.Channels.{numbers_below}

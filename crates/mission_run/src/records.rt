@@ -13,7 +13,8 @@ use std::alloc::{AllocError, Global};
 /// The line of a channel.
 #[tactic(auto, using(crate::proofs::Shown::line_shown))]
 fn line_of(chan: Chan, input: i64, vote: i64) -> ChannelLine
-    ensures { (channels : ℕ) → channels ≤ 7 → shown_line channels 1 1 result ≡ line_with channels input vote chan }
+    ensures { (channels : ℕ) → channels ≤ 7 →
+        shown_line channels 1 1 result ≡ line_with channels input vote chan }
 {
     ChannelLine {
         chan,
@@ -28,7 +29,8 @@ fn line_of(chan: Chan, input: i64, vote: i64) -> ChannelLine
 #[tactic(auto, using(crate::proofs::Shown::lines_more))]
 fn lines_of(alloc: Global, channels: u8, input: i64, vote: i64) -> Result<Lines, AllocError>
     requires { channels ≤ 7 }
-    ensures { IfOk result (λ lines. map (shown_line channels 1 1) lines.items ≡ map (line_with channels input vote) (numbers_below channels)) }
+    ensures { IfOk result (λ lines.
+        map (shown_line channels 1 1) lines.items ≡ map (line_with channels input vote) (numbers_below channels)) }
 {
     let mut lines = Lines::new(alloc);
     for number in 0..channels {
