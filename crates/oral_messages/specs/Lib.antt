@@ -1,0 +1,5 @@
+pub mod Ranks
+pub mod Sets
+pub mod Paths
+pub mod Trees
+pub mod Received
