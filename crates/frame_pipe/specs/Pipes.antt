@@ -1,18 +1,11 @@
 -- What contracts see of the two ends of a pipe of copies.
 use Rattle.std.specs.Prelude.{ℕ, List}
-use Rattle.std.proofs.Common.{Global}
-use denote.RawPtr.{Ptr}
 use Rattle.guards_model.specs.Frames.{CopyValue}
+use Rattle.frame_pipe.specs.declared.feed.PipeName.{PipeName}
 use Rattle.frame_pipe.specs.declared.feed.Feed.{Feed}
 use Rattle.frame_pipe.specs.declared.framer.Framer.{Framer}
 
--- The name of a pipe, which its two ends have. No two pipes that exist at one time have one name.
-pub record PipeName : Type 0 where
-  pub words : Ptr
-  pub slots : Ptr
-  pub names : ℕ × (ℕ × ℕ)
-  pub heap : Global
-
+-- the name of the pipe, which its two ends have: no two pipes that exist at one time have one name
 abbrev pub feed_name : Feed → PipeName
 feed_name f = record { words = f.producer.end.words; slots = f.producer.end.slots; names = f.producer.end.names; heap = f.producer.end.heap }
 

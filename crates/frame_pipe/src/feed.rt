@@ -16,6 +16,14 @@ impl Protocol<BlockCopy> for PlanLong {
     ghost allows = { λ before _. length before < 64 };
 }
 
+/// The name of a pipe, which its two ends have. Contracts alone name it, and no call makes one.
+pub struct PipeName {
+    pub words: *mut u64,
+    pub slots: *mut BlockCopy,
+    pub names: (u64, (u64, u64)),
+    pub heap: Global,
+}
+
 /// Takes copies. It can move to another thread.
 #[derive(Drop)]
 pub struct Feed {

@@ -9,5 +9,5 @@ mod framer;
 mod tests;
 
 pub use ends::{gather, pipe};
-pub use feed::{Feed, MOST_COPIES, PlanLong};
+pub use feed::{Feed, MOST_COPIES, PipeName, PlanLong};
 pub use framer::Framer;
