@@ -1,0 +1,14 @@
+pub mod Runs
+pub mod Complete
+pub mod Pieces
+pub mod Bytes
+pub mod Sound
+pub mod Viable
+pub mod Stack
+pub mod Verdicts
+pub mod Parsed
+pub mod Fitting
+pub mod Growth
+pub mod Scan
+pub mod Canonical
+pub mod Appended
