@@ -62,13 +62,13 @@ module _ (old new : TreeValue) (received : Received) (from : Channel) (item : It
   others : (from == old.me) ≡ false
   others = unequal from old.me (from == old.me) refl another
 
-  abbrev R0 : ℕ → Received
-  R0 round = with_items received round from rest
+  abbrev Earlier : ℕ → Received
+  Earlier round = with_items received round from rest
 
-  abbrev R1 : ℕ → Received
-  R1 round = with_items received round from (item ∷ rest)
+  abbrev Later : ℕ → Received
+  Later round = with_items received round from (item ∷ rest)
 
-  pub kept_first : item.path ≡ [] → KeepsFirst old new from kept → Holds old (R0 1) → Holds new (R1 1)
+  pub kept_first : item.path ≡ [] → KeepsFirst old new from kept → Holds old (Earlier 1) → Holds new (Later 1)
   unfolding level_of
   kept_first none k h =
       let long : length item.path + 1 ≡ 1 = ap (λ p. length p + 1) none in
@@ -78,22 +78,22 @@ module _ (old new : TreeValue) (received : Received) (from : Channel) (item : It
       record {
         first = k.first ∙ ap (λ xs. slice_set xs (rank old.members (from ∷ [])) kept) h.first
             ∙ sym (level_at old.width old.members old.me old.own received 1 from item rest others long 0 (from ∷ []) set (omega arith) one_path refl z_is)
-            ∙ sym (same_level new old (R1 1) 1 k.same);
+            ∙ sym (same_level new old (Later 1) 1 k.same);
         second = λ many.
             let some : 4 ≤ length old.members = subst (λ m. 4 ≤ length m) k.same.members many in
             k.second some ∙ ap (λ xs. slice_set xs (rank old.members (old.me ∷ from ∷ [])) kept) (h.second some)
             ∙ sym (level_own old.width old.members old.me old.own received 1 from item rest others long 1 (old.me ∷ from ∷ []) set (omega arith) two_path refl (ap (λ y. old.me ∷ y) z_is))
-            ∙ sym (same_level new old (R1 1) 2 k.same);
+            ∙ sym (same_level new old (Later 1) 2 k.same);
         third = λ many.
             let some : 7 ≤ length old.members = subst (λ m. 7 ≤ length m) k.same.members many in
             k.third ∙ h.third some
             ∙ sym (level_same old.width old.members old.me old.own received 1 from item rest others long 2 set (omega arith)
             (λ y path count e. let l : length y ≡ 1 = ap length (e ∙ sym z_is) in omega (arith, count, l))
             (λ y path count e. let l : length y ≡ 2 = ap length (e ∙ ap (λ x. old.me ∷ x) (sym z_is)) in omega (arith, count, l)))
-            ∙ sym (same_level new old (R1 1) 3 k.same);
+            ∙ sym (same_level new old (Later 1) 3 k.same);
       }
 
-  pub kept_second : (a : Channel) → item.path ≡ a ∷ [] → is_path old.members (from ∷ a ∷ []) ≡ true → KeepsSecond old new a from kept → 4 ≤ length old.members → Holds old (R0 2) → Holds new (R1 2)
+  pub kept_second : (a : Channel) → item.path ≡ a ∷ [] → is_path old.members (from ∷ a ∷ []) ≡ true → KeepsSecond old new a from kept → 4 ≤ length old.members → Holds old (Earlier 2) → Holds new (Later 2)
   unfolding level_of
   kept_second a one path k many h =
       let long : length item.path + 1 ≡ 2 = ap (λ p. length p + 1) one in
@@ -103,17 +103,17 @@ module _ (old new : TreeValue) (received : Received) (from : Channel) (item : It
             ∙ sym (level_same old.width old.members old.me old.own received 2 from item rest others long 0 set (omega arith)
             (λ y path count e. let l : length y ≡ 2 = ap length (e ∙ sym z_is) in omega (arith, count, l))
             (λ y path count e. let l : length y ≡ 3 = ap length (e ∙ ap (λ x. old.me ∷ x) (sym z_is)) in omega (arith, count, l)))
-            ∙ sym (same_level new old (R1 2) 1 k.same);
+            ∙ sym (same_level new old (Later 2) 1 k.same);
         second = λ _.
             k.second ∙ ap (λ xs. slice_set xs (rank old.members (from ∷ a ∷ [])) kept) (h.second many)
             ∙ sym (level_at old.width old.members old.me old.own received 2 from item rest others long 1 (from ∷ a ∷ []) set (omega arith) path refl z_is)
-            ∙ sym (same_level new old (R1 2) 2 k.same);
+            ∙ sym (same_level new old (Later 2) 2 k.same);
         third = λ more.
             let some : 7 ≤ length old.members = subst (λ m. 7 ≤ length m) k.same.members more in
-            third_level some (a == old.me) refl ∙ sym (same_level new old (R1 2) 3 k.same);
+            third_level some (a == old.me) refl ∙ sym (same_level new old (Later 2) 3 k.same);
       }
     where
-      third_level : 7 ≤ length old.members → (b : Bool) → (a == old.me) ≡ b → new.third ≡ level_of old (R1 2) 3
+      third_level : 7 ≤ length old.members → (b : Bool) → (a == old.me) ≡ b → new.third ≡ level_of old (Later 2) 3
       third_level some true e =
           let long : length item.path + 1 ≡ 2 = ap (λ p. length p + 1) one in
           let z_is : from ∷ a ∷ [] ≡ from ∷ reverse item.path = ap (λ p. from ∷ reverse p) (sym one) in
@@ -130,7 +130,7 @@ module _ (old new : TreeValue) (received : Received) (from : Channel) (item : It
           ∙ sym (level_own old.width old.members old.me old.own received 2 from item rest others long 2 (old.me ∷ from ∷ a ∷ []) set (omega arith)
           (own_path old.members old.me (from ∷ a ∷ []) path mine (apart_two a from old.me ne another)) refl (ap (λ y. old.me ∷ y) z_is))
 
-  pub kept_third : (a b : Channel) → item.path ≡ a ∷ b ∷ [] → is_path old.members (from ∷ b ∷ a ∷ []) ≡ true → KeepsThird old new a b from kept → 7 ≤ length old.members → Holds old (R0 3) → Holds new (R1 3)
+  pub kept_third : (a b : Channel) → item.path ≡ a ∷ b ∷ [] → is_path old.members (from ∷ b ∷ a ∷ []) ≡ true → KeepsThird old new a b from kept → 7 ≤ length old.members → Holds old (Earlier 3) → Holds new (Later 3)
   unfolding level_of
   kept_third a b two path k many h =
       let long : length item.path + 1 ≡ 3 = ap (λ p. length p + 1) two in
@@ -140,17 +140,17 @@ module _ (old new : TreeValue) (received : Received) (from : Channel) (item : It
             ∙ sym (level_same old.width old.members old.me old.own received 3 from item rest others long 0 set (omega arith)
             (λ y path count e. let l : length y ≡ 3 = ap length (e ∙ sym z_is) in omega (arith, count, l))
             (λ y path count e. let l : length y ≡ 4 = ap length (e ∙ ap (λ x. old.me ∷ x) (sym z_is)) in omega (arith, count, l)))
-            ∙ sym (same_level new old (R1 3) 1 k.same);
+            ∙ sym (same_level new old (Later 3) 1 k.same);
         second = λ some.
             k.second ∙ h.second (omega (arith, many))
             ∙ sym (level_same old.width old.members old.me old.own received 3 from item rest others long 1 set (omega arith)
             (λ y path count e. let l : length y ≡ 3 = ap length (e ∙ sym z_is) in omega (arith, count, l))
             (λ y path count e. let l : length y ≡ 4 = ap length (e ∙ ap (λ x. old.me ∷ x) (sym z_is)) in omega (arith, count, l)))
-            ∙ sym (same_level new old (R1 3) 2 k.same);
+            ∙ sym (same_level new old (Later 3) 2 k.same);
         third = λ some.
             k.third ∙ ap (λ xs. slice_set xs (rank old.members (from ∷ b ∷ a ∷ [])) kept) (h.third many)
             ∙ sym (level_at old.width old.members old.me old.own received 3 from item rest others long 2 (from ∷ b ∷ a ∷ []) set (omega arith) path refl z_is)
-            ∙ sym (same_level new old (R1 3) 3 k.same);
+            ∙ sym (same_level new old (Later 3) 3 k.same);
       }
 
 -- an item for a path that has a label that is no member changes nothing
