@@ -41,10 +41,13 @@ closed_of e =
 -- A channel's control decides and closes a cycle as the facts say: its tags stand for the cycles of the transfer.
 pub record ControlFollows (M : MissionValue) (past : Past) (e : Cycle) : Type 0 where
   -- from any agreed words it decides what the facts decide from them
-  pub decides : (agreed : Agreed) → decided_by M.rules (this_cycle past) (control_at M past) agreed ≡ decision_of M past e.opening agreed
+  pub decides : (agreed : Agreed) →
+      decided_by M.rules (this_cycle past) (control_at M past) agreed ≡ decision_of M past e.opening agreed
   -- with the cycle's decision, and any list of just the blocks that are written, it becomes the control of the next cycle
   pub closes : (written : List ℕ) → ((b : ℕ) → has written b ≡ has (written_blocks M (this_cycle past)) b) →
-      control_closed M.rules.last e.removed e.planned written (control_decided M.rules (this_cycle past) (control_at M past) e.decision) ≡ control_at M (e ∷ past)
+      control_closed M.rules.last e.removed e.planned written
+          (control_decided M.rules (this_cycle past) (control_at M past) e.decision) ≡ control_at M (e ∷ past)
   -- and answers what the facts say
   pub answers : (written : List ℕ) → ((b : ℕ) → has written b ≡ has (written_blocks M (this_cycle past)) b) →
-      closed_by M.rules.last e.planned written (control_decided M.rules (this_cycle past) (control_at M past) e.decision) ≡ closed_of e
+      closed_by M.rules.last e.planned written
+          (control_decided M.rules (this_cycle past) (control_at M past) e.decision) ≡ closed_of e

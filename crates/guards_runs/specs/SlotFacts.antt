@@ -21,19 +21,25 @@ AreFromPlace c place entries =
 -- A frame is owed by what arrived in earlier slots: entries of its own slot and of later ones change neither who sends in
 -- the slot to whom, nor what is sent.
 pub record FramesStay (M : MissionValue) (entries new : Log) (past : Past) (slot : Slot) : Type 0 where
-  pub carries : slot_carries (this_cycle past) (cycle_from M (entries ++ new) past) slot ≡ slot_carries (this_cycle past) (cycle_from M entries past) slot
+  pub carries : slot_carries (this_cycle past) (cycle_from M (entries ++ new) past) slot
+      ≡ slot_carries (this_cycle past) (cycle_from M entries past) slot
   pub frames : (from to : Channel) (places : List ℕ) →
-      owed M past (cycle_from M (entries ++ new) past) slot from to places ≡ owed M past (cycle_from M entries past) slot from to places
-  pub origins : slot ≡ Sweep → (from : Channel) → origin_of M past (cycle_from M (entries ++ new) past) from ≡ origin_of M past (cycle_from M entries past) from
+      owed M past (cycle_from M (entries ++ new) past) slot from to places
+          ≡ owed M past (cycle_from M entries past) slot from to places
+  pub origins : slot ≡ Sweep → (from : Channel) →
+      origin_of M past (cycle_from M (entries ++ new) past) from
+      ≡ origin_of M past (cycle_from M entries past) from
 
 -- whether a slot stops the run is not changed by entries of later slots
 abbrev pub StopStays : MissionValue → Log → Log → Past → Slot → Type 0
 StopStays M entries new past slot =
-    halts (this_cycle past) (cycle_from M (entries ++ new) past) slot ≡ halts (this_cycle past) (cycle_from M entries past) slot
+    halts (this_cycle past) (cycle_from M (entries ++ new) past) slot
+        ≡ halts (this_cycle past) (cycle_from M entries past) slot
 
 -- A frame is sent in a slot of cycle e, after the past: the slot carries frames, and who sends it and who receives it do so
 -- there. The copies of a sweep frame fell at places that some order of the steps gives.
-pub record IsSent (M : MissionValue) (past : Past) (e : Cycle) (slot : Slot) (from to : ℕ) (places : List ℕ) : Type 0 where
+pub record IsSent (M : MissionValue) (past : Past) (e : Cycle) (slot : Slot) (from to : ℕ)
+    (places : List ℕ) : Type 0 where
   pub carries : carries_frames e slot ≡ true
   pub sender : from < 7
   pub sends : is_sender e slot from ≡ true
@@ -41,6 +47,9 @@ pub record IsSent (M : MissionValue) (past : Past) (e : Cycle) (slot : Slot) (fr
   pub in_order : slot ≡ Sweep → AreWritesBefore (origin_of M past e from) places
 
 -- What is owed has a spelling, and suits its slot and receiver: so what arrives as it was sent counts.
-pub record Counts (M : MissionValue) (past : Past) (e : Cycle) (slot : Slot) (from to : ℕ) (places : List ℕ) : Type 0 where
-  pub spelled : in_range (frame_of M (record { cycle = this_cycle past; slot = slot; from = from; to = to }) (owed M past e slot from to places)) ≡ true
+pub record Counts (M : MissionValue) (past : Past) (e : Cycle) (slot : Slot) (from to : ℕ)
+    (places : List ℕ) : Type 0 where
+  pub spelled : in_range
+      (frame_of M (record { cycle = this_cycle past; slot = slot; from = from; to = to })
+      (owed M past e slot from to places)) ≡ true
   pub suiting : suits (format_of M) slot to (owed M past e slot from to places) ≡ true
