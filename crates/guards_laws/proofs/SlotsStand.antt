@@ -67,7 +67,7 @@ held_alike active width me own a b n same (j ∷ y) short =
     ap (λ o. cond (j == me) o (word_for width (reverse y) (a (length (j ∷ y)) j))) (held_alike active width me own a b n same y (omega (arith, short)))
     ∙ ap (λ items. cond (j == me) (held_value active width me own b y) (word_for width (reverse y) items)) (same (length (j ∷ y)) j (omega arith) short)
 
-owed_alike : (active : ChannelSet) (width : ℕ) (me : Channel) (own : SourceValue) (a b : ℕ → Channel → List ItemValue) (round : ℕ) → ((r : ℕ) (j : Channel) → 1 ≤ r → r ≤ round - 1 → a r j ≡ b r j) →
+pub owed_alike : (active : ChannelSet) (width : ℕ) (me : Channel) (own : SourceValue) (a b : ℕ → Channel → List ItemValue) (round : ℕ) → ((r : ℕ) (j : Channel) → 1 ≤ r → r ≤ round - 1 → a r j ≡ b r j) →
     items_owed active width me own a round ≡ items_owed active width me own b round
 owed_alike active width me own a b round same =
     map_on (λ (y : PathValue). length y == round - 1)
