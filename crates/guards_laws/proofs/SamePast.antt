@@ -23,10 +23,10 @@ use Rattle.guards_model.specs.Damages.{is_damage, damaged_by}
 use Rattle.guards_runs.specs.Cycles.{Cycle, CycleStart, Agreement, CycleResult, Past, mode_in, joins_from, joins_since, is_whole, starts_to, starts_of, held_start, active_set, fresh_set, base_counts, running_transfer, mode_after, context_after, was_damaged, ideal_after, opening_of, accused_before, heard_before, source_word, received_items, received_body, items_in, first_up, agreement_of, swept_since, plan_of, decision_of, ballots_at, remaining_of, work_of}
 use Rattle.guards_runs.specs.SameFacts.{without_entries, HaveSameFacts}
 
-abbrev bare : Past → Past
+abbrev pub bare : Past → Past
 bare P = map without_entries P
 
-size_bare : (P : Past) → length (bare P) ≡ length P
+pub size_bare : (P : Past) → length (bare P) ≡ length P
 size_bare P = length-map P without_entries
 
 joins_bare : (q : Channel) (s : ℕ) (P : Past) → joins_since q s (bare P) ≡ joins_since q s P
