@@ -1,8 +1,9 @@
 -- Entries of later slots change no frame that is owed in a slot, and no stop of it.
 use Rattle.std.proofs.Common.{◌≡◌, ℕ, zero, suc, ◌-◌, ◌*◌, ◌<◌, ◌≤◌, ◌==◌, ◌⊎◌, inl, inr, Bool, true, false, cond, not, ◌&&◌, ◌||◌, List, [], ◌∷◌, ◌++◌, length, map, Option, None, ℤ, refl, ap, ◌∙◌, eq-eqb, arith}
-use Rattle.std.specs.Prelude.{nat_le, filter, flat_map, reverse, option_map}
+use Rattle.std.specs.Prelude.{nat_le, filter, filter_map, flat_map, reverse, option_map, if◌then◌else◌}
+use Rattle.std.proofs.Math.Path.{fun_ext}
 use Rattle.std.specs.List.{list_all, list_any}
-use Rattle.std.proofs.lemmas.Bool.{ne_eqb, leb-true, eqb-true}
+use Rattle.std.proofs.lemmas.Bool.{ne_eqb, leb-true, le-leb, eqb-true}
 use Rattle.std.proofs.lemmas.List.Folds.{list_any-append}
 use Rattle.guards_model.specs.declared.Slot.{Slot}
 use Rattle.guards_model.specs.declared.Slot.TheVariants.{Request, Round1, Round2, Round3, Tasks, Vote, Sweep, Final, Switch, Output}
@@ -12,18 +13,20 @@ use Rattle.guards_model.specs.Contexts.{ContextValue}
 use Rattle.guards_model.specs.Tasks.{whole}
 use Rattle.guards_model.specs.Missions.{MissionValue, format_of, cycle_writes, output_words}
 use Rattle.guards_model.specs.Frames.{SourceValue, ItemValue, CopyValue, ControlWordValue, BodyValue, exchange_body, vote_body, sweep_body, final_body, switch_body}
-use Rattle.guards_model.specs.Voting.{inputs_of}
+use Rattle.guards_model.specs.Voting.{Ballots, inputs_of, vote_of, accused_of}
 use Rattle.guards_model.specs.Diagnosis.{Agreed, counts_carried}
 use Rattle.guards_model.specs.Transfers.{TransferValue, start_of, active_after}
-use Rattle.guards_model.specs.Decisions.{DecisionValue, joined_of}
+use Rattle.guards_model.specs.Decisions.{DecisionValue, joined_of, request_code}
 use Rattle.guards_model.specs.Rounds.{Origin, copies_at}
-use Rattle.guards_model.specs.Network.{Log, AreAfter, items_of}
+use Rattle.guards_model.specs.Network.{Log, AreAfter, items_of, ballot_of, have_of}
 use Rattle.guards_model.specs.OralMessages.{PathValue, word_for, held_value, items_owed, paths}
 use Rattle.guards_model.specs.Modes.{is_up}
 use Rattle.guards_runs.specs.Cycles.{Cycle, Past, Agreement, first_up, mode_in, is_damaged, source_word, received_items, received_body, items_in, opening_of, agreement_of, decision_of, work_of, cycle_from, remaining_of}
 use Rattle.guards_runs.specs.Disturbed.{is_charge, differs_from, disturbed_channels}
 use Rattle.guards_runs.specs.Due.{Carry, targets_of, context_or_none, copy_from, slot_carries, owed, origin_of, exchange_of, control_after, is_sender, receivers}
-use Rattle.guards_runs.specs.SlotFacts.{AreFromPlace, FramesStay, StopStays}
+use Rattle.guards_runs.specs.SlotFacts.{AreFromPlace, FramesStay, StopStays, FactsStay}
+use Rattle.guards_runs.specs.Restoration.{sweeps_at, finals_at}
+use Rattle.guards_model.specs.Replicas.{sweep_content, final_content}
 use Rattle.guards_model.proofs.BoolTests.{both}
 use Rattle.guards_model.proofs.ListTests.{all-filter, all-map, all-append}
 use Rattle.guards_model.proofs.SlotsStay.{slot_stays}
@@ -276,8 +279,79 @@ module _ (M : MissionValue) (entries new : Log) (past : Past) where
   unfolding cycle_from
   stop_stays slot late = ap (λ (D : ChannelSet). nat_le (length (opening_of M past).active) (3 * length D)) (disturbed_stay slot late)
 
+  -- ---- what is known when a slot is over
+
+  known_after : (s slot : Slot) → AreFromPlace c (suc (slot_index slot)) new → up_to s slot ≡ true → AreAfter c s new
+  known_after s slot late h = after_place c (suc (slot_index slot)) s new (omega (arith, leb-true (slot_index s) (slot_index slot) h)) late
+
+  got_stays : (s slot : Slot) → AreFromPlace c (suc (slot_index slot)) new → up_to s slot ≡ true → (from to : ℕ) →
+      received_body M (entries ++ new) c s from to ≡ received_body M entries c s from to
+  got_stays s slot late h from to = slot_stays (format_of M) entries new c s from to (known_after s slot late h)
+
+  abbrev ballots_of : List (Option ContextValue) → (Channel → Channel → Option BodyValue) → List Ballots
+  ballots_of held votes =
+      by_channel (λ p. if has (opening_of M past).active p then by_channel (λ j. if j == p then option_map (output_words M) (place_or held p None) else ballot_of (votes j p)) else [])
+
+  abbrev voted_of : List Ballots → List (List (Option ℤ))
+  voted_of ballots = map (vote_of (opening_of M past).active (length M.outputs)) ballots
+
+  abbrev accusations_of : List Ballots → List ChannelSet
+  accusations_of ballots = by_channel (λ p. accused_of (opening_of M past).active (place_or ballots p []) (place_or (voted_of ballots) p []))
+
+  module _ (slot : Slot) (late : AreFromPlace c (suc (slot_index slot)) new) where
+    codes_stay : more.request_codes ≡ e.request_codes
+    unfolding cycle_from work_of
+    codes_stay =
+        ap (λ (f : Channel → Channel → Option BodyValue). by_channel (λ p. by_channel (λ q. request_code (opening_of M past).running q (have_of (f q p)))))
+        (fun_ext (λ q. fun_ext (λ p. got_stays Request slot late (le-leb 0 (slot_index slot) (omega arith)) q p)))
+
+    round3 : up_to Vote slot ≡ true → up_to Round3 slot ≡ true
+    round3 h = le-leb 3 (slot_index slot) (omega (arith, leb-true 5 (slot_index slot) h))
+
+    ballots_stay : up_to Vote slot ≡ true →
+        ballots_of more.contexts_after (received_body M (entries ++ new) c Vote) ≡ ballots_of e.contexts_after (received_body M entries c Vote)
+    ballots_stay h =
+        ap (λ held. ballots_of held (received_body M (entries ++ new) c Vote)) (contexts_stay (known_after Round3 slot late (round3 h)))
+        ∙ ap (λ (f : Channel → Channel → Option BodyValue). ballots_of e.contexts_after f) (fun_ext (λ j. fun_ext (λ p. got_stays Vote slot late h j p)))
+
+    voted_stays : up_to Vote slot ≡ true → more.voted ≡ e.voted
+    unfolding cycle_from work_of
+    voted_stays h = ap voted_of (ballots_stay h)
+
+    accused_stays : up_to Vote slot ≡ true → more.accusations ≡ e.accusations
+    unfolding cycle_from work_of
+    accused_stays h = ap accusations_of (ballots_stay h)
+
+    filled_stays : up_to Sweep slot ≡ true → (q : Channel) → sweeps_at M past more q ≡ sweeps_at M past e q
+    unfolding cycle_from
+    filled_stays h q =
+        ap (λ (f : Channel → Option BodyValue). filter_map (λ j. sweep_content (f j)) (opening_of M past).active) (fun_ext (λ j. got_stays Sweep slot late h j q))
+
+    taken_stays : up_to Final slot ≡ true → (q : Channel) → finals_at M past more q ≡ finals_at M past e q
+    unfolding cycle_from
+    taken_stays h q =
+        ap (λ (f : Channel → Option BodyValue). filter_map (λ j. final_content (f j)) (opening_of M past).active) (fun_ext (λ j. got_stays Final slot late h j q))
+
+    known_stays : FactsStay M entries new past slot
+    known_stays =
+        record {
+          received = λ s. got_stays s slot late;
+          heard = codes_stay;
+          agreed = λ h. agreement_stays (known_after Round3 slot late h);
+          decided = λ h. decision_stays (known_after Round3 slot late h);
+          worked = λ h. contexts_stay (known_after Round3 slot late h);
+          closed = λ h. control_stays (known_after Round3 slot late h);
+          voted = voted_stays;
+          accused = accused_stays;
+          filled = filled_stays;
+          taken = taken_stays;
+        }
+
 pub slots_stand : (M : MissionValue) (entries new : Log) (past : Past) (slot : Slot) → AreFromPlace (length past) (slot_index slot) new → FramesStay M entries new past slot
 slots_stand M entries new past slot late = frames_stay M entries new past slot late
 
 pub stops_stand : (M : MissionValue) (entries new : Log) (past : Past) (slot : Slot) → AreFromPlace (length past) (suc (slot_index slot)) new → StopStays M entries new past slot
 stops_stand M entries new past slot late = stop_stays M entries new past slot late
+
+pub facts_stand : (M : MissionValue) (entries new : Log) (past : Past) (slot : Slot) → AreFromPlace (length past) (suc (slot_index slot)) new → FactsStay M entries new past slot
+facts_stand M entries new past slot late = known_stays M entries new past slot late
