@@ -40,7 +40,7 @@ same_parts : (M : MissionValue) (P R : Past) → HaveSameFacts P R → stop_of P
 same_parts M P R same h k =
     unstopped_parts M P h
     ∙ ap (λ (xs : List Part). (head_line M.rules.channels M.cycles ∷ []) ∷ (xs ++ (last_line M.cycles None ∷ []) ∷ []))
-        (sym (parts_bare M P) ∙ ap (cycle_parts false M []) same ∙ parts_bare M R)
+    (sym (parts_bare M P) ∙ ap (cycle_parts false M []) same ∙ parts_bare M R)
     ∙ sym (unstopped_parts M R k)
 
 pub reports_alike : (M : MissionValue) (L K : Log) → AllByRecursion (IsScripted (bus_rules M)) L → AllByRecursion (IsScripted (bus_rules M)) K → IsRun M L M.cycles → IsRun M K M.cycles → report M L ≡ report M K

@@ -51,7 +51,7 @@ row_sent : (c : ℕ) (e : Cycle) (slot : Slot) (q : Channel) (targets : List ℕ
 row_sent c e slot q [] carries low sends h = tt
 row_sent c e slot q (r ∷ targets) carries low sends h = (
   and_true (carries_frames e slot) _ carries
-  (and_true (nat_lt q 7 && is_sender e slot q) _ (and_true (nat_lt q 7) (is_sender e slot q) (le-leb (suc q) 7 low) sends) (h r (ap (λ b. b || has targets r) (eq-eqb r r refl)))),
+      (and_true (nat_lt q 7 && is_sender e slot q) _ (and_true (nat_lt q 7) (is_sender e slot q) (le-leb (suc q) 7 low) sends) (h r (ap (λ b. b || has targets r) (eq-eqb r r refl)))),
   row_sent c e slot q targets carries low sends (λ x k. h x (or_true (r == x) (has targets x) k)),
 )
 

@@ -46,8 +46,8 @@ pub record ControlFollows (M : MissionValue) (past : Past) (e : Cycle) : Type 0 
   -- with the cycle's decision, and any list of just the blocks that are written, it becomes the control of the next cycle
   pub closes : (written : List ℕ) → ((b : ℕ) → has written b ≡ has (written_blocks M (this_cycle past)) b) →
       control_closed M.rules.last e.removed e.planned written
-          (control_decided M.rules (this_cycle past) (control_at M past) e.decision) ≡ control_at M (e ∷ past)
+      (control_decided M.rules (this_cycle past) (control_at M past) e.decision) ≡ control_at M (e ∷ past)
   -- and answers what the facts say
   pub answers : (written : List ℕ) → ((b : ℕ) → has written b ≡ has (written_blocks M (this_cycle past)) b) →
       closed_by M.rules.last e.planned written
-          (control_decided M.rules (this_cycle past) (control_at M past) e.decision) ≡ closed_of e
+      (control_decided M.rules (this_cycle past) (control_at M past) e.decision) ≡ closed_of e

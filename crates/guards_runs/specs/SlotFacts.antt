@@ -26,7 +26,7 @@ pub record FramesStay (M : MissionValue) (entries new : Log) (past : Past) (slot
       ≡ slot_carries (this_cycle past) (cycle_from M entries past) slot
   pub frames : (from to : Channel) (places : List ℕ) →
       owed M past (cycle_from M (entries ++ new) past) slot from to places
-          ≡ owed M past (cycle_from M entries past) slot from to places
+      ≡ owed M past (cycle_from M entries past) slot from to places
   pub origins : slot ≡ Sweep → (from : Channel) →
       origin_of M past (cycle_from M (entries ++ new) past) from
       ≡ origin_of M past (cycle_from M entries past) from
@@ -35,7 +35,7 @@ pub record FramesStay (M : MissionValue) (entries new : Log) (past : Past) (slot
 abbrev pub StopStays : MissionValue → Log → Log → Past → Slot → Type 0
 StopStays M entries new past slot =
     halts (this_cycle past) (cycle_from M (entries ++ new) past) slot
-        ≡ halts (this_cycle past) (cycle_from M entries past) slot
+    ≡ halts (this_cycle past) (cycle_from M entries past) slot
 
 -- A frame is sent in a slot of cycle e, after the past: the slot carries frames, and who sends it and who receives it do so
 -- there. The copies of a sweep frame fell at places that some order of the steps gives.
@@ -60,7 +60,7 @@ pub record Counts (M : MissionValue) (past : Past) (e : Cycle) (slot : Slot) (fr
 pub record FactsStay (M : MissionValue) (entries new : Log) (past : Past) (slot : Slot) : Type 0 where
   pub received : (s : Slot) → up_to s slot ≡ true → (from to : ℕ) →
       received_body M (entries ++ new) (this_cycle past) s from to
-          ≡ received_body M entries (this_cycle past) s from to
+      ≡ received_body M entries (this_cycle past) s from to
   pub heard : (cycle_from M (entries ++ new) past).request_codes ≡ (cycle_from M entries past).request_codes
   pub agreed : up_to Round3 slot ≡ true →
       (cycle_from M (entries ++ new) past).agreement ≡ (cycle_from M entries past).agreement
@@ -70,7 +70,7 @@ pub record FactsStay (M : MissionValue) (entries new : Log) (past : Past) (slot 
       (cycle_from M (entries ++ new) past).contexts_after ≡ (cycle_from M entries past).contexts_after
   pub closed : up_to Round3 slot ≡ true →
       control_after M (cycle_from M (entries ++ new) past ∷ past)
-          ≡ control_after M (cycle_from M entries past ∷ past)
+      ≡ control_after M (cycle_from M entries past ∷ past)
   pub voted : up_to Vote slot ≡ true →
       (cycle_from M (entries ++ new) past).voted ≡ (cycle_from M entries past).voted
   pub accused : up_to Vote slot ≡ true →
