@@ -1,0 +1,4 @@
+pub mod TableFaults
+pub mod Tables
+pub mod Kept
+pub mod Codes
