@@ -3,7 +3,7 @@
 ghost use Rattle.std.specs.Prelude.{◌≡◌, ◌&&◌, ◌==◌, true, nat_lt, length};
 ghost use Rattle.std.specs.List.{list_all};
 ghost use Rattle.guards_model.specs.Words.{is_word};
-ghost use Rattle.guards_model.specs.Frames.{is_set, is_channel, fits_u32, absent_or, words_in_range, source_word_in_range, item_in_range, copy_in_range, copies_in_range, is_distinct, each_next, numbers_of, codes_in_range, counts_in_range, law_in_range, names_law, control_in_range, exchange_body, sweep_body, final_body, body_in_range, in_range};
+ghost use Rattle.guards_model.specs.Frames.{is_set, is_channel, fits_u32, absent_or, words_in_range, source_word_in_range, item_in_range, copy_in_range, copies_in_range, is_distinct, each_next, numbers_of, codes_in_range, counts_in_range, law_in_range, names_law, control_in_range, sweep_body, final_body, exchange_in_range, body_in_range, in_range};
 ghost use Rattle.icn_frames.specs.Bodies.{view_body};
 
 use crate::frame::{BlockCopy, Body, ControlWord, Exchange, FinalBody, Frame, Item, SweepBody};
@@ -84,17 +84,6 @@ fn have_item_ranges(sender: Chan, round: u8, items: &[Item]) -> bool
             has_item_ranges(sender, round, item) && have_item_ranges(sender, round, rest)
         }
     }
-}
-
-fn are_exchanged(sender: Chan, exchange: &Exchange) -> bool
-    ensures { result ≡ body_in_range 1 sender (exchange_body exchange.now) }
-{
-    let items = exchange.items.as_slice();
-    1 <= exchange.round
-        && exchange.round <= 3
-        && items.len() <= 30
-        && have_item_ranges(sender, exchange.round, items)
-        && ascend(items)
 }
 
 /// Each ballot of the type has words in range.
@@ -230,7 +219,7 @@ fn has_body_ranges(version: u8, sender: Chan, body: &Body) -> bool
             start_fits(*start);
             true
         }
-        Body::Exchange(exchange) => are_exchanged(sender, exchange),
+        Body::Exchange(exchange) => exchange.in_range(sender),
         Body::Vote(ballot) => {
             is_a_ballot(ballot);
             true
@@ -241,6 +230,21 @@ fn has_body_ranges(version: u8, sender: Chan, body: &Body) -> bool
             is_a_set(active);
             true
         }
+    }
+}
+
+impl Exchange {
+    /// Whether a frame of the sender may have these items: a round from 1 to 3, and at most 30 items whose paths
+    /// ascend, each of different channels without the sender and as long as the round asks.
+    pub fn in_range(&self, sender: Chan) -> bool
+        ensures { result ≡ exchange_in_range sender self.now }
+    {
+        let items = self.items.as_slice();
+        1 <= self.round
+            && self.round <= 3
+            && items.len() <= 30
+            && have_item_ranges(sender, self.round, items)
+            && ascend(items)
     }
 }
 
