@@ -1,0 +1,4 @@
+pub mod NodeStates
+pub mod NodeSteps
+pub mod NodeFrames
+pub mod NodeCalls
