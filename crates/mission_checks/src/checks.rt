@@ -108,7 +108,9 @@ pub fn number_or(
     low: u32,
     high: u32,
 ) -> Result<u32, ReadFault>
-    ensures { Gives (λ n. n) result (number_or default low high path.now key.now (table_view fields.now)) }
+    requires { (low ≤ default) × (default ≤ high) }
+    ensures within { IfOk result (λ n. (low ≤ n) × (n ≤ high)) }
+    ensures exact { Gives (λ n. n) result (number_or default low high path.now key.now (table_view fields.now)) }
 {
     match lookup(fields, key) {
         Some(value) => integer_in(alloc, value, low, high, &field(alloc, path, key)?),
