@@ -1,5 +1,6 @@
 //! The elements of an array.
-ghost use Rattle.std.specs.Prelude.{◌≡◌, ℕ, ℤ, List, [], length, map, IfOk};
+ghost use Rattle.std.specs.Prelude.{◌≡◌, ℕ, ℤ, Bool, true, IsTrue, List, [], length, map, IfOk};
+ghost use Rattle.std.specs.List.{list_all};
 ghost use Rattle.toml.specs.Data.{Data};
 ghost use Rattle.toml.specs.View.{view, items_view};
 ghost use Rattle.mission_checks.specs.Checks.{Checked, Gives, element, each, integers};
@@ -22,6 +23,9 @@ pub trait ElementReader {
     /// The checks that an element passes, beside the elements before it.
     ghost check: { Self → List Self.Meaning → List ℕ → Data → Checked Self.Meaning };
 
+    /// What is known of each element that passes.
+    ghost holds: { Self → Self.Element → Bool } = { λ _ _. true };
+
     fn read(
         &self,
         alloc: Global,
@@ -29,7 +33,8 @@ pub trait ElementReader {
         path: &str,
         value: &Value,
     ) -> Result<Self::Element, ReadFault>
-        ensures { Gives (Self.meaning self.now) result (Self.check self.now (map (Self.meaning self.now) earlier.now) path.now (view value.now)) };
+        ensures holds { IfOk result (λ x. IsTrue (Self.holds self.now x)) }
+        ensures exact { Gives (Self.meaning self.now) result (Self.check self.now (map (Self.meaning self.now) earlier.now) path.now (view value.now)) };
 }
 
 /// Reads each element of an array, up to the first that fails.
@@ -40,6 +45,7 @@ pub fn each<R: ElementReader>(
     items: &[Value],
 ) -> Result<Sequence<R::Element>, ReadFault>
     ensures exact { Gives (λ list. map (R.meaning reader.now) list.items) result (each (R.check reader.now) path.now [] (items_view items.now)) }
+    ensures holds { IfOk result (λ list. IsTrue (list_all (R.holds reader.now) list.items)) }
     ensures count { IfOk result (λ list. length list.items ≡ length items.now) }
 {
     let mut list = Sequence::new(alloc);
@@ -57,7 +63,8 @@ fn next<R: ElementReader>(
     earlier: &[R::Element],
     value: &Value,
 ) -> Result<R::Element, ReadFault>
-    ensures { Gives (R.meaning reader.now) result (R.check reader.now (map (R.meaning reader.now) earlier.now) (element path.now (length earlier.now)) (view value.now)) }
+    ensures holds { IfOk result (λ x. IsTrue (R.holds reader.now x)) }
+    ensures exact { Gives (R.meaning reader.now) result (R.check reader.now (map (R.meaning reader.now) earlier.now) (element path.now (length earlier.now)) (view value.now)) }
 {
     let place = element(alloc, path, earlier.len())?;
     reader.read(alloc, earlier, &place, value)
