@@ -248,3 +248,73 @@ fn two_return(rt: HostRuntime) -> Result<(), Fail> {
     );
     Ok(())
 }
+
+// Four channels, of which one is removed at its first error where three remain.
+fn strict_rules() -> Rules
+    ensures { is_rules result ≡ true }
+{
+    Rules {
+        channels: 4,
+        blocks: 1,
+        version: 1,
+        law: Law::Multiply,
+        keep: 32_768,
+        decrement: 32_768,
+        threshold: 65_536,
+        sweep: 16,
+        last: 8,
+        returning: 1,
+    }
+}
+
+// A word that accuses channel 1.
+fn accusing() -> Option<SourceWord> {
+    Some(SourceWord {
+        width: 1,
+        words: [5, 0, 0, 0],
+        accuse: ChanSet::of_flags(&[false, true, false, false, false, false, false]),
+        heard: [0; 7],
+    })
+}
+
+// In one cycle the word of channel 0 is missing and two words accuse channel 1, which accuses nobody. Both are judged and
+// reach the threshold, but only 0 may go, since three remain then; in the next cycle the count of 1 falls to a half.
+#[test]
+fn two_candidates_of_four(rt: HostRuntime) -> Result<(), Fail> {
+    let rules = strict_rules();
+    let written = BlockSet::empty();
+    let mut control = Control::first(&rules);
+    let quiet = four(Code::None);
+    assert_eq!(rt; cycle(&mut control, &rules, 0, &quiet, &written).removed, 0);
+    assert_eq!(rt; control.word(&rules).alphas, [0; 7]);
+    let errant = [
+        None,
+        plain(Code::None),
+        accusing(),
+        accusing(),
+        None,
+        None,
+        None,
+    ];
+    let decision = control.decide(&rules, 1, &errant);
+    assert_eq!(rt; decision.judged.mask(), 3);
+    assert_eq!(rt; decision.removed.mask(), 1);
+    assert_eq!(rt; control.alphas[0].units(), 65_536);
+    assert_eq!(rt; control.alphas[1].units(), 65_536);
+    assert_eq!(rt; control.alphas[2].units(), 0);
+    let _ = control.close_cycle(&rules, &decision, &written);
+    assert_eq!(rt; control.active.mask(), 14);
+    assert_eq!(rt; control.word(&rules).alphas, [0, 65_536, 0, 0, 0, 0, 0]);
+    let three = [
+        None,
+        plain(Code::None),
+        plain(Code::None),
+        plain(Code::None),
+        None,
+        None,
+        None,
+    ];
+    assert_eq!(rt; cycle(&mut control, &rules, 2, &three, &written).removed, 0);
+    assert_eq!(rt; control.word(&rules).alphas, [0, 32_768, 0, 0, 0, 0, 0]);
+    Ok(())
+}

@@ -72,14 +72,15 @@ module _ (active : ChannelSet) (width : ℕ) (me : Channel) (own : SourceValue) 
       ∙ all_none (paths active (suc k))
 
 pub begins : (t : TreeValue) (ones twos threes : ℕ) → is_set t.members ≡ true → has t.members t.me ≡ true → ones ≡ length t.members → (4 ≤ length t.members → twos ≡ length t.members * (length t.members - 1)) → (7 ≤ length t.members → threes ≡ 210) →
-    t.first ≡ slice_set (replicate ones None) (rank t.members (t.me ∷ [])) (Some t.own) → t.second ≡ replicate twos None → t.third ≡ replicate threes None → Holds t nothing
+    t.first ≡ slice_set (replicate ones None) (rank t.members (t.me ∷ [])) (Some t.own) →
+    (4 ≤ length t.members → t.second ≡ replicate twos None) → (7 ≤ length t.members → t.third ≡ replicate threes None) → Holds t nothing
 unfolding level_of
 begins t ones twos threes set mine one two three first second third =
     let sized : AreSized t.members = sizes t.members set in
     record {
       first = first ∙ ap (λ n. slice_set (replicate n None) (rank t.members (t.me ∷ [])) (Some t.own)) one ∙ sym (first_yet t.members t.width t.me t.own set mine);
-      second = λ many. second ∙ ap (λ n. replicate n None) (two many ∙ sym sized.second) ∙ sym (later_yet t.members t.width t.me t.own 1 set (omega arith) (omega arith));
+      second = λ many. second many ∙ ap (λ n. replicate n None) (two many ∙ sym sized.second) ∙ sym (later_yet t.members t.width t.me t.own 1 set (omega arith) (omega arith));
       third = λ many.
           let seven : length t.members ≡ 7 = let few = sized.seven in omega arith in
-          third ∙ ap (λ n. replicate n None) (three many ∙ sym (sized.third ∙ ap (λ n. n * (n - 1) * (n - 2)) seven)) ∙ sym (later_yet t.members t.width t.me t.own 2 set (omega arith) (omega arith));
+          third many ∙ ap (λ n. replicate n None) (three many ∙ sym (sized.third ∙ ap (λ n. n * (n - 1) * (n - 2)) seven)) ∙ sym (later_yet t.members t.width t.me t.own 2 set (omega arith) (omega arith));
     }

@@ -16,3 +16,4 @@ pub mod Telling
 pub mod Owed
 pub mod Stored
 pub mod Flags
+pub mod Ranged

@@ -10,6 +10,7 @@ ghost use Rattle.oral_messages.specs.Ranks.{is_path, rank, rank_sum};
 mod members;
 mod owing;
 mod place;
+mod ranges;
 mod tree;
 mod votes;
 mod words;

@@ -1,18 +1,29 @@
 //! What a member tells of the paths of a round.
-ghost use Rattle.std.specs.Prelude.{◌≡◌, ◌-◌, ◌*◌, Option, Some, [], ◌∷◌, map, length, IfOk};
-ghost use Rattle.guards_model.specs.Frames.{SourceValue};
+ghost use Rattle.std.specs.Prelude.{◌≡◌, ◌-◌, ◌*◌, Option, Some, [], ◌∷◌, map, length, IfOk, IsTrue};
+ghost use Rattle.guards_model.specs.Channels.{has};
+ghost use Rattle.guards_model.specs.Frames.{SourceValue, is_set, exchange_in_range};
 ghost use Rattle.guards_model.specs.OralMessages.{PathValue, paths};
 ghost use Rattle.oral_messages.specs.Trees.{items_told};
 
 use crate::members::Members;
+use crate::ranges::values_fit;
 use guards_base::SourceWord;
 use icn_frames::{Item, Items, Labels};
 use std::alloc::{AllocError, Global};
 
 /// What a member tells in the first round: its own word.
-pub fn told_of_own(alloc: Global, own: SourceWord) -> Result<Items, AllocError>
-    ensures { IfOk result (λ items. items.items ≡ (record { path = []; word = Some own } ∷ [])) }
+pub fn told_of_own(
+    alloc: Global,
+    members: &Members,
+    me: u8,
+    own: SourceWord,
+) -> Result<Items, AllocError>
+    requires set { IsTrue (is_set members.now) }
+    requires mine { IsTrue (has members.now me) }
+    ensures items { IfOk result (λ items. items.items ≡ (record { path = []; word = Some own } ∷ [])) }
+    ensures range { IfOk result (λ items. IsTrue (exchange_in_range me (record { round = 1; items = items.items }))) }
 {
+    values_fit(&[Some(own)]);
     let mut items = Items::new(alloc);
     items.push(Item {
         path: Labels {
@@ -31,9 +42,13 @@ pub fn told_of_sources(
     me: u8,
     values: &[Option<SourceWord>],
 ) -> Result<Items, AllocError>
-    requires { length values.now ≡ length members.now }
-    ensures { IfOk result (λ items. (value : PathValue → Option SourceValue) → values.now ≡ map value (paths members.now 1) → items.items ≡ items_told me value (paths members.now 1)) }
+    requires set { IsTrue (is_set members.now) }
+    requires mine { IsTrue (has members.now me) }
+    requires many { length values.now ≡ length members.now }
+    ensures items { IfOk result (λ items. (value : PathValue → Option SourceValue) → values.now ≡ map value (paths members.now 1) → items.items ≡ items_told me value (paths members.now 1)) }
+    ensures range { IfOk result (λ items. IsTrue (exchange_in_range me (record { round = 2; items = items.items }))) }
 {
+    values_fit(values);
     let mut items = Items::new(alloc);
     items.reserve(values.len())?;
     for (place, value) in values.iter().enumerate() {
@@ -58,9 +73,13 @@ pub fn told_of_relays(
     me: u8,
     values: &[Option<SourceWord>],
 ) -> Result<Items, AllocError>
-    requires { length values.now ≡ length members.now * (length members.now - 1) }
-    ensures { IfOk result (λ items. (value : PathValue → Option SourceValue) → values.now ≡ map value (paths members.now 2) → items.items ≡ items_told me value (paths members.now 2)) }
+    requires set { IsTrue (is_set members.now) }
+    requires mine { IsTrue (has members.now me) }
+    requires many { length values.now ≡ length members.now * (length members.now - 1) }
+    ensures items { IfOk result (λ items. (value : PathValue → Option SourceValue) → values.now ≡ map value (paths members.now 2) → items.items ≡ items_told me value (paths members.now 2)) }
+    ensures range { IfOk result (λ items. IsTrue (exchange_in_range me (record { round = 3; items = items.items }))) }
 {
+    values_fit(values);
     let mut items = Items::new(alloc);
     items.reserve(values.len())?;
     for (place, value) in values.iter().enumerate() {

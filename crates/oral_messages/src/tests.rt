@@ -175,7 +175,8 @@ fn tree_of(
     own: i64,
     all: &[Saying],
 ) -> Result<Tree, Fail>
-    ensures { IfOk result (λ tree. tree.members ≡ active.now) }
+    ensures members { IfOk result (λ tree. tree.members ≡ active.now) }
+    ensures me { IfOk result (λ tree. tree.me ≡ me.now) }
 {
     assert!(rt; active.has(*me));
     assert!(rt; active.count() >= 3);
@@ -445,6 +446,76 @@ fn seven(alloc: Global) -> Result<Vec<Saying>, AllocError> {
         }
     }
     Ok(all)
+}
+
+#[test]
+fn a_tree_of_seven_lends_its_levels_and_relays(rt: HostRuntime) -> Result<(), Fail> {
+    let alloc = rt.alloc();
+    let all = seven(alloc)?;
+    let active = set_of(&[0, 1, 2, 3, 4, 5, 6])?;
+    let me = Chan::new(0).ok_or("a channel")?;
+    let tree = tree_of(&rt, alloc, &active, &me, 10, all.as_slice())?;
+    // What 2, 3, 4, 5 and 6 say of what 1 says of 0, and then of what 2 says of it.
+    let ten = Some(10);
+    begins_level(
+        &rt,
+        &tree,
+        &active,
+        3,
+        &[ten, ten, ten, None, None, ten, ten, ten, None, None],
+    );
+    let mut want = Vec::new(alloc);
+    for place in 0..49u8 {
+        let a = place / 7;
+        let b = place % 7;
+        if a != b && a != 0 && b != 0 {
+            want.push(Saying {
+                round: 3,
+                from: 0,
+                path: [a, b],
+                number: if b < 5 { held(b, a) } else { None },
+            })?;
+        }
+    }
+    let exchange = owed(&rt, alloc, &tree, &active, 3)?;
+    let wanted = frame_of(alloc, want.as_slice(), 3, 0)?;
+    assert_eq!(rt; exchange.items.as_slice(), wanted.items.as_slice());
+    assert!(rt; exchange.in_range(me));
+    assert!(rt; !exchange.in_range(Chan::new(1).ok_or("a channel")?));
+    Ok(())
+}
+
+/// Begins a later cycle in the tree of the cycle before.
+fn begin_again(
+    rt: &impl Abort,
+    tree: &mut Tree,
+    before: &ChanSet,
+    active: &ChanSet,
+    me: &Chan,
+    own: i64,
+)
+    requires members { tree.old.members ≡ before.now }
+    requires me { tree.old.me ≡ me.now }
+    ensures { tree.new.members ≡ active.now }
+{
+    assert!(rt; active.has(*me));
+    assert!(rt; active.count() >= 3);
+    assert!(rt; active.count() <= before.count());
+    tree.restart(*active, word(own));
+}
+
+#[test]
+fn a_tree_is_overwritten(rt: HostRuntime) -> Result<(), Fail> {
+    let alloc = rt.alloc();
+    let all = seven(alloc)?;
+    let before = set_of(&[0, 1, 2, 3, 4, 5, 6])?;
+    let active = set_of(&[0, 2, 3, 5, 6])?;
+    let me = Chan::new(0).ok_or("a channel")?;
+    let mut tree = tree_of(&rt, alloc, &before, &me, 10, all.as_slice())?;
+    begin_again(&rt, &mut tree, &before, &active, &me, 7);
+    begins_level(&rt, &tree, &active, 1, &[Some(7), None, None, None, None]);
+    begins_level(&rt, &tree, &active, 2, &[None; 20]);
+    Ok(())
 }
 
 #[test]

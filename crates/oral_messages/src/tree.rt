@@ -3,7 +3,7 @@ ghost use Rattle.std.specs.Prelude.{◌≡◌, ℕ, ◌+◌, ◌-◌, ◌*◌, �
 ghost use Rattle.std.specs.List.{list_all};
 ghost use Rattle.std.specs.Option.{option_copied};
 ghost use Rattle.guards_model.specs.Channels.{has, tolerated_faults};
-ghost use Rattle.guards_model.specs.Frames.{ItemValue, item_in_range};
+ghost use Rattle.guards_model.specs.Frames.{ItemValue, item_in_range, exchange_in_range};
 ghost use Rattle.guards_model.specs.OralMessages.{resolved_value, majority_value, of_width};
 ghost use Rattle.oral_messages.specs.Ranks.{is_path};
 ghost use Rattle.oral_messages.specs.Trees.{Received, with_items, Holds, level_of, owed_items, IsSameMember, BeginsTree, KeepsFirst, KeepsSecond, KeepsThird};
@@ -94,6 +94,17 @@ fn missing(alloc: Global, count: usize) -> Result<Vec<Option<SourceWord>>, Alloc
         values.push(None)?;
     }
     Ok(values)
+}
+
+/// Keeps so many places and makes each missing.
+fn clear(values: &mut Vec<Option<SourceWord>>, count: usize)
+    ensures { count ≤ length values.old.items → values.new.items ≡ replicate count None }
+{
+    values.truncate(count);
+    let kept = values.len();
+    for place in 0..kept {
+        values[place] = None;
+    }
 }
 
 /// A word of another width is missing.
@@ -198,6 +209,24 @@ impl Tree {
         })
     }
 
+    /// The tree of a later cycle in the same memory: the own word alone. No member more than before is active.
+    pub fn restart(&mut self, active: ChanSet, own: SourceWord)
+        requires mine { IsTrue (has active self.old.me) }
+        requires some { 3 ≤ length active }
+        requires room { length active ≤ length self.old.members }
+        ensures { BeginsTree self.new active self.old.me self.old.width own }
+    {
+        let members = Members::of(active);
+        let count = usize::from(members.count());
+        clear(&mut self.first, count);
+        clear(&mut self.second, second_size(count));
+        clear(&mut self.third, third_size(count));
+        let place = members.first(self.me);
+        self.first[place] = Some(own);
+        self.members = members;
+        self.own = own;
+    }
+
     /// Keeps what was received in a round from a member.
     pub fn put(&mut self, round: u8, from: Chan, frame: Option<&Exchange>)
         requires member { IsTrue (has self.old.members from) }
@@ -220,9 +249,11 @@ impl Tree {
         requires high { round ≤ tolerated_faults self.now.members + 1 }
         ensures round { IfOk result (λ exchange. exchange.round ≡ round) }
         ensures items { IfOk result (λ exchange. (received : Received) → Holds self.now received → exchange.items ≡ owed_items self.now received round) }
+        // a frame of the holder may have it
+        ensures range { IfOk result (λ exchange. IsTrue (exchange_in_range self.now.me exchange)) }
     {
         let items = if round == 1 {
-            told_of_own(alloc, self.own)?
+            told_of_own(alloc, &self.members, self.me, self.own)?
         } else if round == 2 {
             told_of_sources(alloc, &self.members, self.me, self.first.as_slice())?
         } else {

@@ -1,8 +1,10 @@
-use Rattle.std.proofs.Common.{[], ◌∷◌, ap, ◌∙◌, arith}
+use Rattle.std.proofs.Common.{[], ◌∷◌, ap, sym, ◌∙◌, arith}
 use Rattle.guards_model.specs.Frames.{ItemValue}
 use Rattle.guards_model.specs.OralMessages.{paths}
 use Rattle.oral_messages.proofs.Levels.{apart_two}
 use Rattle.oral_messages.proofs.Telling.{front_none, front_more, front_same, front_all, read_none, has_first, has_last}
+use Rattle.oral_messages.proofs.Formulas.{sizes}
+use Rattle.oral_messages.proofs.Ranged.{relays_good}
 use Rattle.oral_messages.proofs.owing.told_of_relays.Goals as goal
 use Rattle.oral_messages.proofs.owing.told_of_relays.Goals.{then-a-me+then-b-me+in_ok-push, then-a-me+else-b-me, else-a-me}
 
@@ -25,5 +27,11 @@ loop-place-preserved c =
           (has_first a b c.args.me w.if-a-me.false) (ap (λ v. v.items) w.items-is) c.loop-place.invariant
     ]
 
-pub returns : goal.returns
-returns c = front_all c.args.me c.args.values.now (paths c.args.members.now 2) c.loop-place.items.items c.loop-place.place (omega arith) c.loop-place.invariant
+pub returns-clause-items : goal.returns-clause-items
+returns-clause-items c = front_all c.args.me c.args.values.now (paths c.args.members.now 2) c.loop-place.items.items c.loop-place.place (omega arith) c.loop-place.invariant
+
+pub returns-clause-range : goal.returns-clause-range
+returns-clause-range c =
+    relays_good c.args.members.now c.args.me c.requires.set c.requires.mine c.args.values.now c.values_fit.ensures c.loop-place.items.items
+    (c.requires.many ∙ sym (sizes c.args.members.now c.requires.set).second)
+    (front_all c.args.me c.args.values.now (paths c.args.members.now 2) c.loop-place.items.items c.loop-place.place (omega arith) c.loop-place.invariant)

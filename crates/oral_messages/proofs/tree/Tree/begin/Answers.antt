@@ -42,8 +42,8 @@ returns c =
           (λ many. c.third_size.ensures (subst (λ n. 7 ≤ n) (sym count) many))
           (ap (λ xs. slice_set xs c.first-place.result (Some c.args.own)) c.in_ok-first.ensures
           ∙ ap (λ p. slice_set (replicate c.from-count.result None) p (Some c.args.own)) c.first-place.ensures)
-          c.in_ok-second.ensures
-          c.in_ok-third.ensures;
+          (λ many. c.in_ok-second.ensures)
+          (λ many. c.in_ok-third.ensures);
     }
 
 pub first-place-requires : goal.first-place-requires
