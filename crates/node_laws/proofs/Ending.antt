@@ -37,7 +37,7 @@ use Rattle.node_laws.proofs.Opening.{active_in}
 
 -- ---- crashes
 
-crash_stays : (q c : ℕ) (slot last : Slot) → up_to slot last ≡ true → (f : FaultValue) → is_crash_by q c slot f ≡ true → is_crash_by q c last f ≡ true
+pub crash_stays : (q c : ℕ) (slot last : Slot) → up_to slot last ≡ true → (f : FaultValue) → is_crash_by q c slot f ≡ true → is_crash_by q c last f ≡ true
 crash_stays q c slot last soon (crash p d when) h =
     let parts = both (p == q && d == c) (up_to when slot) h in
     and_true (p == q && d == c) (up_to when last) parts.0
@@ -46,7 +46,7 @@ crash_stays q c slot last soon (restart p d) h = h
 crash_stays q c slot last soon (damage p d block word value) h = h
 crash_stays q c slot last soon (bus rule) h = h
 
-on_before : (slot last : Slot) → up_to slot last ≡ true → on_bus last ≡ true → on_bus slot ≡ true
+pub on_before : (slot last : Slot) → up_to slot last ≡ true → on_bus last ≡ true → on_bus slot ≡ true
 on_before Output last soon h = late last (leb-true 9 (slot_index last) soon) h
   where
     late : (last : Slot) → 9 ≤ slot_index last → on_bus last ≡ true → on_bus Output ≡ true
