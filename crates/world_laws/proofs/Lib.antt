@@ -1,0 +1,2 @@
+pub mod LedgerFollows
+pub mod Standing
