@@ -1,0 +1,4 @@
+mod SameSets
+mod Taken
+pub mod Finding
+pub mod Filling
