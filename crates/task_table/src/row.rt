@@ -32,7 +32,8 @@ pub(crate) fn count_writes(tasks: &[Task], row: &[u32]) -> usize
     requires named { IsTrue (names_tasks (length tasks.now) row.now) }
     requires few { IsTrue (list_all (λ task. nat_le (length task.writes) 16) tasks.now) }
     requires short { length row.now ≤ 16 }
-    ensures { result ≡ length (writes_of (named_tasks tasks.now row.now)) }
+    ensures count { result ≡ length (writes_of (named_tasks tasks.now row.now)) }
+    ensures few { result ≤ 256 }
 {
     let mut count = 0;
     for place in row.iter() {

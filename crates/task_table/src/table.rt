@@ -89,9 +89,10 @@ impl Table {
         self.tasks.get(number as usize)
     }
 
-    /// The number of writes of the cycle's row.
+    /// The number of writes of the cycle's row, at most 256.
     pub fn steps(&self, cycle: u32) -> usize
-        ensures { result ≡ length (table_writes self.now cycle) }
+        ensures count { result ≡ length (table_writes self.now cycle) }
+        ensures few { result ≤ 256 }
     {
         count_writes(self.tasks.as_slice(), row_of(&self.rows, cycle).as_slice())
     }

@@ -12,8 +12,8 @@ use Rattle.task_table.proofs.write.replaced_words.Goals as goal
 pub loop-at-init : goal.loop-at-init
 loop-at-init g c = refl
 
-pub eval-requires-after_bounds : goal.eval-requires-after_bounds
-eval-requires-after_bounds g c = λ κs _.
+pub eval-requires : goal.eval-requires
+eval-requires g c =
     let there : c.loop-at.at < length c.args.set.now = omega (arith, c.loop-at-test.true, c.type_inv.set) in
     expr_fits (length c.args.ctx.now) c.args.set.now c.loop-at.at c.index-set-at.result c.in-Some.expr there c.in-Some.is c.requires
 

@@ -41,7 +41,7 @@ unwrap-write-requires g c =
     copied_some c.find_write.result (table_writes c.args.self.now c.args.cycle) c.args.k (c.find_write.ensures ∙ ap (λ w. slice_get w c.args.k) ws) c.requires.step
 
 pub apply-requires-clause-there : goal.apply-requires-clause-there
-apply-requires-clause-there g c = λ κs _.
+apply-requires-clause-there g c =
     let tasks = c.self.inside.tasks.items in
     let rows = c.self.inside.rows.items in
     let kept = rules_of c.self.inside.blocks tasks (places_of rows) c.self.invariant.faultless in
@@ -56,7 +56,7 @@ apply-requires-clause-there g c = λ κs _.
     omega (arith, there, size)
 
 pub apply-requires-clause-fits : goal.apply-requires-clause-fits
-apply-requires-clause-fits g c = λ κs _.
+apply-requires-clause-fits g c =
     let tasks = c.self.inside.tasks.items in
     let rows = c.self.inside.rows.items in
     let kept = rules_of c.self.inside.blocks tasks (places_of rows) c.self.invariant.faultless in

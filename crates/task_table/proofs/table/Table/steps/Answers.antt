@@ -46,11 +46,11 @@ count_writes-requires-clause-short c =
     let turn : c.as_slice-2.result.now ≡ row_in_turn (places_of rows) c.args.cycle = c.as_slice-2.ensures ∙ c.row_of.ensures in
     subst (λ r. length r ≤ 16) (sym turn) (turn_short (places_of rows) c.args.cycle kept.short_rows)
 
-pub returns : goal.returns
-returns c =
+pub returns-clause-count : goal.returns-clause-count
+returns-clause-count c =
     let tasks = c.self.inside.tasks.items in
     let rows = c.self.inside.rows.items in
     let kept = rules_of c.self.inside.blocks tasks (places_of rows) c.self.invariant.faultless in
     let turn : c.as_slice-2.result.now ≡ row_in_turn (places_of rows) c.args.cycle = c.as_slice-2.ensures ∙ c.row_of.ensures in
-    c.count_writes.ensures
+    c.count_writes.ensures.count
     ∙ ap length (writes_in_turn tasks c.as_slice.result.now rows c.as_slice-2.result.now c.self.inside.blocks c.self.inside.width c.args.cycle c.args.self.now c.as_slice.ensures turn c.self.view_is)
