@@ -1,0 +1,4 @@
+pub mod WritesLemmas
+pub mod Shown
+pub mod IdealContexts
+pub mod Sensing

@@ -1,0 +1,29 @@
+//! Writes a text to a sink.
+ghost use Rattle.std.specs.Prelude.{OnOk, OnErr};
+ghost use Rattle.std.specs.Io.KnownBytes.{Appends};
+ghost use Rattle.guards_io.specs.Causes.{HasCause};
+ghost use Rattle.ideal_run.specs.Writes.{AppendsPart};
+
+use guards_io::{Failed, Sink};
+
+/// Why a text was not written to its end.
+#[derive(Clone, Copy, Debug, PartialEq, Eq)]
+pub enum WriteStop {
+    /// The sink failed.
+    Failed,
+    Memory,
+}
+
+/// Hands the piece to the sink, and what was not taken of it again.
+pub fn write_all<K: Sink>(out: &mut K, piece: &[u8]) -> Result<(), Failed>
+    ensures written { OnOk result (Appends (K.written out.old) (K.written out.new) piece.now) }
+    ensures part { OnErr result (AppendsPart (K.written out.old) (K.written out.new) piece.now) }
+    ensures cause { HasCause (K.faults out.old) (K.faults out.new) result }
+{
+    let mut rest = piece;
+    while !rest.is_empty() {
+        let count = out.write(rest)?;
+        (_, rest) = rest.split_at(count);
+    }
+    Ok(())
+}
