@@ -33,9 +33,10 @@ ledger_in M e slot =
       damaged = channels_where (λ q. is_damaged e q slot);
     }
 
--- The modes are those of `slot`, and `slots` slots are done: their due entries are in the log, none of them halts, and
--- each node holds what the facts say. L has the entries of the earlier cycles, and `now` those of this one.
-pub record InCycle (M : MissionValue) (L now : Log) (steps : Steps) (slot : Slot) (slots : ℕ) (w : WorldValue) : Type 0 where
+-- The modes are those of `slot`. So many slots are carried: their due entries are in the log, and none of them halts. So
+-- many are handed over: each node holds what the facts say when these are done. L has the entries of the earlier cycles,
+-- and `now` those of this one.
+pub record InCycle (M : MissionValue) (L now : Log) (steps : Steps) (slot : Slot) (carried handed : ℕ) (w : WorldValue) : Type 0 where
   pub mission : w.mission ≡ M
   pub ranges : IsMission M
   pub below : w.done < M.cycles
@@ -46,9 +47,9 @@ pub record InCycle (M : MissionValue) (L now : Log) (steps : Steps) (slot : Slot
   pub current : AllZip
       (λ carry entry. IsMadeBy M (cycles_before M (L ++ now) w.done) (cycle_at M (L ++ now) w.done)
       (steps_of steps carry.from) carry entry)
-      (carries_done w.done (cycle_at M (L ++ now) w.done) slots) now
-  pub unhalted : (s : Slot) → slot_index s < slots → halts w.done (cycle_at M (L ++ now) w.done) s ≡ false
-  pub nodes : w.nodes ≡ map (node_in M (L ++ now) w.done steps slot slots) (channels_of M)
+      (carries_done w.done (cycle_at M (L ++ now) w.done) carried) now
+  pub unhalted : (s : Slot) → slot_index s < carried → halts w.done (cycle_at M (L ++ now) w.done) s ≡ false
+  pub nodes : w.nodes ≡ map (node_in M (L ++ now) w.done steps slot handed) (channels_of M)
   pub ledger : w.ledger ≡ ledger_in M (cycle_at M (L ++ now) w.done) slot
   pub switches : w.switches ≡ active_set M (cycles_before M (L ++ now) w.done)
 

@@ -18,12 +18,12 @@ is_within active y = list_all (has active) y
 abbrev is_of : ChannelSet → ℕ → PathValue → Bool
 is_of active k y = length y == k && is_within active y
 
-two_true : (a b : Bool) → a ≡ true → b ≡ true → (a && b) ≡ true
+pub two_true : (a b : Bool) → a ≡ true → b ≡ true → (a && b) ≡ true
 two_true true true h k = refl
 two_true true false h k = k
 two_true false b h k = h
 
-all_of_flat : {A B : Type 0} (P : B → Bool) (Q : A → Bool) (f : A → List B) (xs : List A) → list_all Q xs ≡ true →
+pub all_of_flat : {A B : Type 0} (P : B → Bool) (Q : A → Bool) (f : A → List B) (xs : List A) → list_all Q xs ≡ true →
     ((x : A) → Q x ≡ true → list_all P (f x) ≡ true) → list_all P (flat_map f xs) ≡ true
 all_of_flat P Q f [] h k = refl
 all_of_flat P Q f (x ∷ xs) h k =

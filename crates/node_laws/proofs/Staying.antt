@@ -34,7 +34,7 @@ use Rattle.guards_nodes.specs.NodeSteps.{Received, tree_of, kept_of, with_conten
 use Rattle.guards_world.specs.NodeFacts.{is_done, is_received, since, context_in, control_in, held_in, received_through, tree_in, worked_in, progress_in, running_in, joiner_swept, joiner_in, joiner_at, state_of_mode, state_in, node_with}
 use Rattle.guards_world.specs.InCycle.{node_in}
 
-weaken : (c a b : ℕ) (new : Log) → a ≤ b → AreFromPlace c b new → AreFromPlace c a new
+pub weaken : (c a b : ℕ) (new : Log) → a ≤ b → AreFromPlace c b new → AreFromPlace c a new
 weaken c a b [] small late = tt
 weaken c a b (y ∷ new) small late = (
   (elim late.0 as (λ v. (c < y.cycle) ⊎ ((y.cycle ≡ c) × (a ≤ slot_index y.slot))) [ inl later ↦ inl later | inr same ↦ inr (same.0, omega (arith, same.1, small)) ]),
@@ -226,7 +226,7 @@ module _ (M : MissionValue) (entries new : Log) (past : Past) (steps : Steps) (q
 
 -- ---- the same of a log
 
-from_cycle : (c place : ℕ) (new : Log) → AreFromPlace c place new → AreFrom c new
+pub from_cycle : (c place : ℕ) (new : Log) → AreFromPlace c place new → AreFrom c new
 from_cycle c place [] late = tt
 from_cycle c place (y ∷ new) late = (
   (elim late.0 as (λ v. c ≤ y.cycle) [ inl later ↦ omega (arith, later) | inr same ↦ omega (arith, same.0) ]),

@@ -1,2 +1,4 @@
 pub mod LedgerFollows
 pub mod Standing
+pub mod Carrying
+pub mod Passing

@@ -111,7 +111,7 @@ module _ (M : MissionValue) (L now : Log) (n : ℕ) (steps : Steps) where
       map without_progress (map node_ended (channels_of M)) ≡ map (node_at M (e ∷ past)) (channels_of M)
   nodes_end mission more run = each_node mission more run (channels_of M) (set_parts (channels_of M) (active_is_set M [] mission)).0
 
-pub world_goes_on : (M : MissionValue) (L now : Log) (steps : Steps) (w : WorldValue) → InCycle M L now steps Switch 9 w →
+pub world_goes_on : (M : MissionValue) (L now : Log) (steps : Steps) (w : WorldValue) → InCycle M L now steps Switch 9 9 w →
     StandsForWorld (world_after M L now steps w.done w.carried) (L ++ now)
 world_goes_on M L now steps w inside =
     let run : IsRun M (L ++ now) (suc w.done) = goes_on M L now w.done steps inside.before inside.unstopped inside.current inside.unhalted in

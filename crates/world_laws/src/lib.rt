@@ -2,7 +2,7 @@
 //! cycle. Each is the contract of a function without a body.
 #![tactic(auto)]
 
-ghost use Rattle.std.specs.Prelude.{◌≡◌, ◌≤◌, ◌<◌, true, ℕ, [], ◌∷◌, ◌++◌};
+ghost use Rattle.std.specs.Prelude.{◌≡◌, ◌≤◌, ◌<◌, true, ℕ, [], ◌∷◌};
 ghost use Rattle.std.specs.List.{list_any};
 ghost use Rattle.guards_model.specs.declared.Slot.{Slot};
 ghost use Rattle.guards_model.specs.declared.Slot.TheVariants.{Request, Switch};
@@ -11,7 +11,6 @@ ghost use Rattle.guards_model.specs.Channels.{Channel, ChannelSet, has};
 ghost use Rattle.guards_model.specs.Missions.{MissionValue, IsMission};
 ghost use Rattle.guards_model.specs.Modes.{is_joining};
 ghost use Rattle.guards_model.specs.Network.{Log};
-ghost use Rattle.guards_model.specs.Rounds.{Steps};
 ghost use Rattle.guards_model.specs.Ledgers.{turned_joining, ledger_at_start, ledger_in_slot, ledger_at_end, disturbed_by, limit_reached};
 ghost use Rattle.guards_runs.specs.Cycles.{this_cycle, cycles_before, cycle_at, active_set, mode_in, is_whole};
 ghost use Rattle.guards_runs.specs.Disturbed.{is_charge, disturbed_channels, halts};
@@ -19,8 +18,11 @@ ghost use Rattle.guards_runs.specs.Promises.{IsRun};
 ghost use Rattle.guards_world.specs.NodeFacts.{ledger_at};
 ghost use Rattle.guards_world.specs.SlotSteps.{begins_to_join};
 ghost use Rattle.guards_world.specs.Worlds.{WorldValue, StandsForWorld, first_world};
-ghost use Rattle.guards_world.specs.InCycle.{InCycle, ledger_in};
-ghost use Rattle.world_laws.specs.Passing.{world_after};
+ghost use Rattle.guards_world.specs.InCycle.{ledger_in};
+
+mod cycle;
+
+pub use cycle::{rounds_settle_decisions, slots_are_carried, slots_are_entered, worlds_go_on};
 
 /// The ledger goes from cycle to cycle and from slot to slot as the facts say: it has their modes and their marks of damage.
 pub fn ledger_follows()
@@ -61,11 +63,4 @@ pub fn stops_are_found()
 pub fn worlds_begin()
     ensures first { (M : MissionValue) → IsMission M → StandsForWorld (first_world M) [] }
     ensures runs { (w : WorldValue) (L : Log) → StandsForWorld w L → IsRun w.mission L w.done }
-{}
-
-/// Where all slots of a cycle are done, and none of them halted, the log with the cycle's entries stands for the world after
-/// it, in which one cycle more is done.
-pub fn worlds_go_on()
-    ensures { (M : MissionValue) (L now : Log) (steps : Steps) (w : WorldValue) → InCycle M L now steps Switch 9 w →
-        StandsForWorld (world_after M L now steps w.done w.carried) (L ++ now) }
 {}

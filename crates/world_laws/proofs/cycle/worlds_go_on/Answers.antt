@@ -1,5 +1,5 @@
 use Rattle.world_laws.proofs.Standing.{world_goes_on}
-use Rattle.world_laws.proofs.worlds_go_on.Goals as goal
+use Rattle.world_laws.proofs.cycle.worlds_go_on.Goals as goal
 
 pub returns : goal.returns
 returns c = world_goes_on

@@ -1,0 +1,59 @@
+//! How the world passes a cycle, slot by slot.
+ghost use Rattle.std.specs.Prelude.{◌≡◌, ◌<◌, true, false, ℕ, suc, [], ◌++◌, length, take, None};
+ghost use Rattle.guards_model.specs.declared.Slot.{Slot};
+ghost use Rattle.guards_model.specs.declared.Slot.TheVariants.{Request, Switch};
+ghost use Rattle.guards_model.specs.Slots.{slot_index, on_bus};
+ghost use Rattle.guards_model.specs.Missions.{MissionValue};
+ghost use Rattle.guards_model.specs.Network.{Log};
+ghost use Rattle.guards_model.specs.Rounds.{Steps};
+ghost use Rattle.guards_runs.specs.Cycles.{cycles_before, cycle_at};
+ghost use Rattle.guards_runs.specs.Disturbed.{halts};
+ghost use Rattle.guards_runs.specs.Due.{slot_carries};
+ghost use Rattle.guards_runs.specs.Promises.{DecideAlike};
+ghost use Rattle.guards_world.specs.Worlds.{WorldValue, StandsForWorld};
+ghost use Rattle.guards_world.specs.InCycle.{InCycle};
+ghost use Rattle.world_laws.specs.Passing.{world_after, world_carried, world_in, AreCarried, StopsIn, IsFront};
+
+/// A world for which a log stands, and which has a cycle left, enters it; and within a cycle its nodes and its ledger enter
+/// a slot, or take what it carried.
+pub fn slots_are_entered()
+    ensures first { (w : WorldValue) (L : Log) (steps : Steps) → StandsForWorld w L → w.done < w.mission.cycles → w.spent ≡ None →
+        InCycle w.mission L [] steps Request 0 0 (world_in w.mission (L ++ []) steps Request 0 w) }
+    ensures later { (M : MissionValue) (L now : Log) (steps : Steps) (slot next : Slot) (carried handed more : ℕ) (w : WorldValue) →
+        InCycle M L now steps slot carried handed w →
+        InCycle M L now steps next carried more (world_in M (L ++ now) steps next more w) }
+{}
+
+/// When the entries that are due in a slot by what was known before it are carried, they are those of the longer log, and
+/// nothing that was known changes: so the cycle goes on or stops there. Where only some were carried, what the log has of the
+/// cycle is a front of its due entries.
+pub fn slots_are_carried()
+    ensures goes_on { (M : MissionValue) (L now new : Log) (steps : Steps) (slot : Slot) (w : WorldValue) → on_bus slot ≡ true →
+        InCycle M L now steps slot (slot_index slot) (slot_index slot) w →
+        AreCarried M (L ++ now) w.done steps (slot_carries w.done (cycle_at M (L ++ now) w.done) slot) new →
+        halts w.done (cycle_at M (L ++ (now ++ new)) w.done) slot ≡ false →
+        InCycle M L (now ++ new) steps slot (suc (slot_index slot)) (slot_index slot) (world_carried (length new) w) }
+    ensures stops { (M : MissionValue) (L now new : Log) (steps : Steps) (slot : Slot) (w : WorldValue) → on_bus slot ≡ true →
+        InCycle M L now steps slot (slot_index slot) (slot_index slot) w →
+        AreCarried M (L ++ now) w.done steps (slot_carries w.done (cycle_at M (L ++ now) w.done) slot) new →
+        halts w.done (cycle_at M (L ++ (now ++ new)) w.done) slot ≡ true →
+        StopsIn M L (now ++ new) w.done steps slot }
+    ensures breaks_off { (M : MissionValue) (L now new : Log) (steps : Steps) (slot : Slot) (w : WorldValue) (few : ℕ) → on_bus slot ≡ true →
+        InCycle M L now steps slot (slot_index slot) (slot_index slot) w →
+        AreCarried M (L ++ now) w.done steps (take few (slot_carries w.done (cycle_at M (L ++ now) w.done) slot)) new →
+        IsFront M L (now ++ new) w.done }
+{}
+
+/// Once the rounds are carried, all active channels decide alike, whoever crashes afterwards and wherever the run stops.
+pub fn rounds_settle_decisions()
+    ensures { (M : MissionValue) (L now : Log) (steps : Steps) (slot : Slot) (handed : ℕ) (w : WorldValue) →
+        InCycle M L now steps slot 4 handed w →
+        DecideAlike M (cycles_before M (L ++ now) w.done) (cycle_at M (L ++ now) w.done) }
+{}
+
+/// Where all slots of a cycle are done, and none of them halted, the log with the cycle's entries stands for the world after
+/// it, in which one cycle more is done.
+pub fn worlds_go_on()
+    ensures { (M : MissionValue) (L now : Log) (steps : Steps) (w : WorldValue) → InCycle M L now steps Switch 9 9 w →
+        StandsForWorld (world_after M L now steps w.done w.carried) (L ++ now) }
+{}
