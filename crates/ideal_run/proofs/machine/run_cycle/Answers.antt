@@ -7,8 +7,8 @@ use Rattle.ideal_run.specs.Ideal.{ideal, ideal_inputs}
 use Rattle.ideal_run.proofs.IdealContexts.{ideal_length, ideal_next}
 use Rattle.ideal_run.proofs.machine.run_cycle.Goals as goal
 
-pub work-requires-after_bounds : goal.work-requires-after_bounds
-work-requires-after_bounds g c κs within =
+pub work-requires : goal.work-requires
+work-requires g c =
     ap length c.requires ∙ ideal_length c.args.mission.now c.args.cycle ∙ c.know_sizes.ensures.initial ∙ sym (ap (λ (t : TableValue). t.blocks) c.table.ensures)
 
 pub returns-clause-context : goal.returns-clause-context
