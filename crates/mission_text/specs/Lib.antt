@@ -1,2 +1,9 @@
-pub mod Checks
+pub mod Core
+pub mod Blocks
+pub mod Expressions
+pub mod Tasks
+pub mod Sets
+pub mod Rows
+pub mod Outputs
+pub mod Sensors
 pub mod Mission

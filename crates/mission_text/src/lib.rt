@@ -1,17 +1,18 @@
-//! Reads missions.
+//! Reads missions: what the bytes stand for, or the first check that fails.
 #![tactic(auto)]
 
-mod checks;
-mod elements;
-mod mission;
-mod terms;
-mod why;
+mod blocks;
+mod core_fields;
+mod expressions;
+mod outputs;
+mod reading;
+mod rows;
+mod sensors;
+mod tasks;
+mod words;
 
-pub use checks::refusal;
-pub use elements::{Element, each};
-pub use mission::{Mission, read};
-pub use terms::{Term, Terms};
-pub use why::{Cause, ReadFault, Why};
-
-#[cfg(test)]
-mod tests;
+pub use blocks::InitBlock;
+pub use core_fields::{Choices, CoreFields, CoreSizes, Limits};
+pub use mission_checks::{Cause, ReadFault, Why};
+pub use mission_type::{Mission, Outputs, SensorRow, SensorRows};
+pub use reading::read;
