@@ -1,0 +1,54 @@
+//! Worked missions over sources and sinks in memory, as tests on the call `guards`.
+#![tactic(auto)]
+
+ghost use Rattle.std.specs.Prelude.{◌≡◌};
+ghost use Rattle.guards_model.specs.declared.Code.TheVariants as codes;
+ghost use Rattle.guards_model.specs.Natives.{native};
+
+use guards_base::Words;
+use guards_io::{MemSink, MemSource};
+use mission_run::{Status, guards};
+use native_calls::{Code, Native, Natives, Operation, middle, ramp, saturated};
+use std::alloc::Global;
+
+/// Does what the words say, with the operations of the task language.
+pub fn answer(alloc: Global, words: &Words, src: &mut MemSource, out: &mut MemSink) -> Status {
+    answer_by(
+        alloc,
+        words,
+        src,
+        out,
+        |a: i64, b: i64, c: i64| -> i64
+            ensures { result ≡ native Code.Sat a b c }
+        { saturated(a, b, c) },
+        |a: i64, b: i64, c: i64| -> i64
+            ensures { result ≡ native Code.Mid a b c }
+        { middle(a, b, c) },
+        |a: i64, b: i64, c: i64| -> i64
+            ensures { result ≡ native Code.Ramp a b c }
+        { ramp(a, b, c) },
+    )
+}
+
+/// Keeps the closures beside their facts.
+fn answer_by<X: Operation + Sync, Y: Operation + Sync, Z: Operation + Sync>(
+    alloc: Global,
+    words: &Words,
+    src: &mut MemSource,
+    out: &mut MemSink,
+    sat: X,
+    mid: Y,
+    ramp: Z,
+) -> Status
+    requires sat { X.computes codes.Sat sat }
+    requires mid { Y.computes codes.Mid mid }
+    requires ramp { Z.computes codes.Ramp ramp }
+{
+    let sat = Native::new(Code::Sat, sat);
+    let mid = Native::new(Code::Mid, mid);
+    let ramp = Native::new(Code::Ramp, ramp);
+    guards(alloc, words, src, out, &Natives::new(sat, mid, ramp))
+}
+
+#[cfg(test)]
+mod tests;
