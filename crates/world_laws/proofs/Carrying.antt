@@ -78,7 +78,7 @@ pub one_place : (s t : Slot) → slot_index s ≡ slot_index t → s ≡ t
 one_place s t h = sym (slot_back s) ∙ ap slot_at h ∙ slot_back t
 
 -- the slots before a slot, and with it
-earlier_slots : (slot : Slot) → on_bus slot ≡ true → list_all (λ s. nat_lt (slot_index s) (slot_index slot)) (take (slot_index slot) every_slot) ≡ true
+pub earlier_slots : (slot : Slot) → on_bus slot ≡ true → list_all (λ s. nat_lt (slot_index s) (slot_index slot)) (take (slot_index slot) every_slot) ≡ true
 earlier_slots Request on = refl
 earlier_slots Round1 on = refl
 earlier_slots Round2 on = refl

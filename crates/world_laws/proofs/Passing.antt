@@ -10,18 +10,18 @@ use Rattle.std.proofs.lemmas.Grind.{flat_map-append}
 use Rattle.guards_model.specs.declared.Slot.{Slot}
 use Rattle.guards_model.specs.declared.Slot.TheVariants.{Request, Round1, Round2, Round3, Tasks, Vote, Sweep, Final, Switch, Output}
 use Rattle.guards_model.specs.Slots.{slot_index, every_slot, on_bus}
-use Rattle.guards_model.specs.Channels.{Channel}
+use Rattle.guards_model.specs.Channels.{Channel, without, channels_where}
 use Rattle.guards_model.specs.Missions.{MissionValue, channels_of}
 use Rattle.guards_model.specs.Network.{EntryValue, Log}
 use Rattle.guards_model.specs.Rounds.{Steps, steps_of}
 use Rattle.guards_model.proofs.BoolTests.{both, and_true}
-use Rattle.guards_model.proofs.ListTests.{all-append}
+use Rattle.guards_model.proofs.ListTests.{all-append, all-flat_map, all-map}
 use Rattle.guards_runs.specs.Cycles.{Past, Cycle, cycle_from, next_cycle, cycles_before, cycle_at, entries_of, active_set}
 use Rattle.guards_runs.specs.Disturbed.{halts, stop_of, disturbed_channels}
-use Rattle.guards_runs.specs.Due.{Carry, IsDue, IsMadeBy, AreDue, slot_carries, cycle_carries, carries_through}
+use Rattle.guards_runs.specs.Due.{Carry, IsDue, IsMadeBy, AreDue, slot_carries, cycle_carries, carries_through, carries_frames, receivers, is_sender}
 use Rattle.guards_runs.specs.Promises.{DecideAlike}
 use Rattle.guards_laws.proofs.Agreement.{decides_under_way}
-use Rattle.guards_laws.proofs.DueEntries.{entries_cycle, all_of_cycle, all_through, entries_now}
+use Rattle.guards_laws.proofs.DueEntries.{entries_cycle, all_of_cycle, all_through, entries_now, carries_of}
 use Rattle.guards_laws.proofs.LogGrows.{length-cycles_before}
 use Rattle.guards_laws.proofs.MadeEntries.{made_is_due}
 use Rattle.guards_nodes.specs.NodeStates.{NodeValue}
@@ -29,8 +29,10 @@ use Rattle.guards_runs.specs.SlotFacts.{AreFromPlace}
 use Rattle.guards_world.specs.InCycle.{InCycle, carries_done, node_in, ledger_in}
 use Rattle.guards_world.specs.Worlds.{WorldValue, StandsForWorld}
 use Rattle.node_laws.proofs.Staying.{node_stays}
-use Rattle.world_laws.specs.Passing.{world_carried, world_in, AreCarried, StopsIn, IsFront}
-use Rattle.world_laws.proofs.Carrying.{zip_append, carries_same, is_n, one_place, through_slot, carries_next, placed, placed_carries, grown, stay_made, stay_new, halts_same, ledger_same}
+use Rattle.world_laws.specs.Passing.{world_carried, world_in, AreCarried, StopsIn, IsFront, Arrives}
+use Rattle.node_laws.proofs.Holding.{all_of_flat}
+use Rattle.world_laws.proofs.Arriving.{arrives, carries_apart}
+use Rattle.world_laws.proofs.Carrying.{zip_append, carries_same, is_n, one_place, through_slot, carries_next, placed, placed_carries, grown, stay_made, stay_new, halts_same, ledger_same, earlier_slots}
 
 -- ---- a cycle is entered
 
@@ -71,6 +73,61 @@ enters_slot M L now steps slot next carried handed more w inside =
       ledger = refl;
       switches = inside.switches;
     }
+
+-- ---- the entries of a cycle
+
+entries_of-all : (c : ℕ) (xs : Log) → list_all (λ (x : EntryValue). x.cycle == c) xs ≡ true → entries_of c xs ≡ xs
+entries_of-all c [] h = refl
+entries_of-all c (x ∷ xs) h =
+    let parts = both (x.cycle == c) (list_all (λ (z : EntryValue). z.cycle == c) xs) h in
+    ap (λ b. cond b (x ∷ entries_of c xs) (entries_of c xs)) parts.0 ∙ ap (λ ys. x ∷ ys) (entries_of-all c xs parts.1)
+
+entries_of-earlier : (n : ℕ) (xs : Log) → list_all (λ (x : EntryValue). nat_lt x.cycle n) xs ≡ true → entries_of n xs ≡ []
+entries_of-earlier n [] h = refl
+entries_of-earlier n (x ∷ xs) h =
+    let parts = both (nat_lt x.cycle n) (list_all (λ (z : EntryValue). nat_lt z.cycle n) xs) h in
+    let other : (x.cycle == n) ≡ false = grind (arith, leb-true (suc x.cycle) n parts.0) in
+    ap (λ b. cond b (x ∷ entries_of n xs) (entries_of n xs)) other ∙ entries_of-earlier n xs parts.1
+
+all_weaken : (P Q : EntryValue → Bool) (xs : Log) → ((x : EntryValue) → P x ≡ true → Q x ≡ true) → list_all P xs ≡ true → list_all Q xs ≡ true
+all_weaken P Q [] f h = refl
+all_weaken P Q (x ∷ xs) f h =
+    let parts = both (P x) (list_all P xs) h in
+    and_true (Q x) (list_all Q xs) (f x parts.0) (all_weaken P Q xs f parts.1)
+
+-- the entries that are due for some cycles are of cycles before
+earlier_entries : (M : MissionValue) (P : Past) (entries : Log) → AreDue M P entries → list_all (λ (x : EntryValue). nat_lt x.cycle (length P)) entries ≡ true
+earlier_entries M [] entries due = ap (list_all (λ (x : EntryValue). nat_lt x.cycle 0)) due
+earlier_entries M (e ∷ past) entries due =
+    let n = length past in
+    let first = all_weaken (λ x. nat_lt x.cycle n) (λ x. nat_lt x.cycle (suc n)) due.0 (λ x h. le-leb (suc x.cycle) (suc n) (omega (arith, leb-true (suc x.cycle) n h))) (earlier_entries M past due.0 due.3) in
+    let last = all_weaken (λ x. x.cycle == n) (λ x. nat_lt x.cycle (suc n)) due.1 (λ x h. le-leb (suc x.cycle) (suc n) (omega (arith, eqb-true x.cycle n h)))
+    (entries_cycle M past e n (cycle_carries n e) due.1 due.4 (all_of_cycle n e)) in
+    ap (list_all (λ (x : EntryValue). nat_lt x.cycle (suc n))) due.2 ∙ all-append (λ (x : EntryValue). nat_lt x.cycle (suc n)) due.0 due.1 first last
+
+-- the carries of a slot, and of the slots before it, pass a test of their slot
+in_slot : (c : ℕ) (x : Cycle) (slot : Slot) (P : Slot → Bool) → P slot ≡ true → list_all (λ (carry : Carry). P carry.slot) (slot_carries c x slot) ≡ true
+in_slot c x slot P h = by_frames (carries_frames x slot)
+  where
+    by_frames : (b : Bool) → list_all (λ (carry : Carry). P carry.slot) (cond b (flat_map (λ q. map (λ to. record { cycle = c; slot = slot; from = q; to = to }) (without (receivers x slot) (q ∷ []))) (channels_where (is_sender x slot))) []) ≡ true
+    by_frames true =
+        all-flat_map (λ (carry : Carry). P carry.slot) (λ q. map (λ to. record { cycle = c; slot = slot; from = q; to = to }) (without (receivers x slot) (q ∷ []))) (channels_where (is_sender x slot))
+        (λ q. all-map (λ (carry : Carry). P carry.slot) (λ to. record { cycle = c; slot = slot; from = q; to = to }) (without (receivers x slot) (q ∷ [])) (λ to. h))
+    by_frames false = refl
+
+done_before : (c : ℕ) (x : Cycle) (slot : Slot) → on_bus slot ≡ true → list_all (λ (carry : Carry). nat_lt (slot_index carry.slot) (slot_index slot)) (carries_done c x (slot_index slot)) ≡ true
+done_before c x slot on =
+    all_of_flat (λ (carry : Carry). nat_lt (slot_index carry.slot) (slot_index slot)) (λ s. nat_lt (slot_index s) (slot_index slot)) (slot_carries c x) (take (slot_index slot) every_slot) (earlier_slots slot on)
+    (λ s h. in_slot c x s (λ t. nat_lt (slot_index t) (slot_index slot)) h)
+
+slots_made : (M : MissionValue) (past : Past) (e : Cycle) (steps : Steps) (P : Slot → Bool) (carries : List Carry) (now : Log) → list_all (λ (carry : Carry). P carry.slot) carries ≡ true →
+    AllZip (λ carry entry. IsMadeBy M past e (steps_of steps carry.from) carry entry) carries now → list_all (λ (y : EntryValue). P y.slot) now ≡ true
+slots_made M past e steps P [] [] h z = refl
+slots_made M past e steps P [] (y ∷ now) h z = absurd z
+slots_made M past e steps P (x ∷ carries) [] h z = absurd z
+slots_made M past e steps P (x ∷ carries) (y ∷ now) h z =
+    let parts = both (P x.slot) (list_all (λ (carry : Carry). P carry.slot) carries) h in
+    and_true (P y.slot) (list_all (λ (w : EntryValue). P w.slot) now) (subst (λ s. P s ≡ true) (sym z.0.slot) parts.0) (slots_made M past e steps P carries now parts.1 z.1)
 
 -- ---- a slot is carried
 
@@ -229,6 +286,36 @@ module _ (M : MissionValue) (L now new : Log) (steps : Steps) (slot : Slot) (on 
           before = at_log (λ p x. stop_of p ≡ None) inside.unstopped;
         }
 
+    cycle_entries : after.entries ≡ now ++ new
+    cycle_entries =
+        let longer : Log = L ++ (now ++ new) in
+        let P : Past = cycles_before M longer n in
+        let size : length P ≡ n = length-cycles_before M longer n in
+        let due : AllZip (IsDue M P after) (carries_done n after (suc (slot_index slot))) (now ++ new) =
+        zip_map (λ carry entry. IsMadeBy M P after (steps_of steps carry.from) carry entry) (IsDue M P after) (carries_done n after (suc (slot_index slot))) (now ++ new)
+        (λ carry entry h. made_is_due M P after (steps_of steps carry.from) carry entry h) made_all in
+        let these : list_all (λ (x : EntryValue). x.cycle == n) (now ++ new) ≡ true =
+        entries_cycle M P after n (carries_done n after (suc (slot_index slot))) (now ++ new) due
+        (all-flat_map (λ (x : Carry). x.cycle == n) (slot_carries n after) (take (suc (slot_index slot)) every_slot) (carries_of n after)) in
+        let before : AreDue M P L = at_log (λ p x. AreDue M p L) inside.before in
+        entries_now M longer P
+        ∙ filter-append (λ (x : EntryValue). x.cycle == length P) L (now ++ new)
+        ∙ ap (λ es. es ++ entries_of (length P) (now ++ new)) (entries_of-earlier (length P) L (earlier_entries M P L before))
+        ∙ ap (λ m. entries_of m (now ++ new)) size
+        ∙ entries_of-all n (now ++ new) these
+
+    carried_all : AreCarried M K n steps (slot_carries n e slot) new
+    carried_all = subst (λ carries. AreCarried M K n steps carries new) (ap (λ k. take k (slot_carries n e slot)) all ∙ take_all (slot_carries n e slot)) carried
+
+    -- what was delivered of each entry of the slot is what its receiver has received
+    pub arrives_slot : AllZip (Arrives M after.entries) (slot_carries n e slot) new
+    arrives_slot =
+        subst (λ entries. AllZip (Arrives M entries) (slot_carries n e slot) new) (sym cycle_entries)
+        (arrives M past e steps (slot_carries n e slot) (slot_index slot) now new (carries_apart M K n n inside.ranges slot)
+        (in_slot n e slot (λ s. nat_le (slot_index slot) (slot_index s)) (le-leb (slot_index slot) (slot_index slot) (omega arith)))
+        (slots_made M past e steps (λ s. nat_lt (slot_index s) (slot_index slot)) (carries_done n e (slot_index slot)) now (done_before n e slot on) inside.current)
+        carried_all)
+
   -- as far as it was carried, it is a front of the due entries
   pub breaks_slot : IsFront M L (now ++ new) n
   breaks_slot =
@@ -261,35 +348,6 @@ module _ (M : MissionValue) (L now new : Log) (steps : Steps) (slot : Slot) (on 
           ∙ ap (take (length (now ++ new))) (sym whole)
 
 -- ---- once the rounds are carried
-
-entries_of-all : (c : ℕ) (xs : Log) → list_all (λ (x : EntryValue). x.cycle == c) xs ≡ true → entries_of c xs ≡ xs
-entries_of-all c [] h = refl
-entries_of-all c (x ∷ xs) h =
-    let parts = both (x.cycle == c) (list_all (λ (z : EntryValue). z.cycle == c) xs) h in
-    ap (λ b. cond b (x ∷ entries_of c xs) (entries_of c xs)) parts.0 ∙ ap (λ ys. x ∷ ys) (entries_of-all c xs parts.1)
-
-entries_of-earlier : (n : ℕ) (xs : Log) → list_all (λ (x : EntryValue). nat_lt x.cycle n) xs ≡ true → entries_of n xs ≡ []
-entries_of-earlier n [] h = refl
-entries_of-earlier n (x ∷ xs) h =
-    let parts = both (nat_lt x.cycle n) (list_all (λ (z : EntryValue). nat_lt z.cycle n) xs) h in
-    let other : (x.cycle == n) ≡ false = grind (arith, leb-true (suc x.cycle) n parts.0) in
-    ap (λ b. cond b (x ∷ entries_of n xs) (entries_of n xs)) other ∙ entries_of-earlier n xs parts.1
-
-all_weaken : (P Q : EntryValue → Bool) (xs : Log) → ((x : EntryValue) → P x ≡ true → Q x ≡ true) → list_all P xs ≡ true → list_all Q xs ≡ true
-all_weaken P Q [] f h = refl
-all_weaken P Q (x ∷ xs) f h =
-    let parts = both (P x) (list_all P xs) h in
-    and_true (Q x) (list_all Q xs) (f x parts.0) (all_weaken P Q xs f parts.1)
-
--- the entries that are due for some cycles are of cycles before
-earlier_entries : (M : MissionValue) (P : Past) (entries : Log) → AreDue M P entries → list_all (λ (x : EntryValue). nat_lt x.cycle (length P)) entries ≡ true
-earlier_entries M [] entries due = ap (list_all (λ (x : EntryValue). nat_lt x.cycle 0)) due
-earlier_entries M (e ∷ past) entries due =
-    let n = length past in
-    let first = all_weaken (λ x. nat_lt x.cycle n) (λ x. nat_lt x.cycle (suc n)) due.0 (λ x h. le-leb (suc x.cycle) (suc n) (omega (arith, leb-true (suc x.cycle) n h))) (earlier_entries M past due.0 due.3) in
-    let last = all_weaken (λ x. x.cycle == n) (λ x. nat_lt x.cycle (suc n)) due.1 (λ x h. le-leb (suc x.cycle) (suc n) (omega (arith, eqb-true x.cycle n h)))
-    (entries_cycle M past e n (cycle_carries n e) due.1 due.4 (all_of_cycle n e)) in
-    ap (list_all (λ (x : EntryValue). nat_lt x.cycle (suc n))) due.2 ∙ all-append (λ (x : EntryValue). nat_lt x.cycle (suc n)) due.0 due.1 first last
 
 pub rounds_carried : (M : MissionValue) (L now : Log) (steps : Steps) (slot : Slot) (handed : ℕ) (w : WorldValue) → InCycle M L now steps slot 4 handed w →
     DecideAlike M (cycles_before M (L ++ now) w.done) (cycle_at M (L ++ now) w.done)

@@ -1,13 +1,15 @@
 -- The world when a slot of a cycle is passed, and when all of them are.
-use Rattle.std.specs.Prelude.{◌≡◌, ℕ, suc, ◌+◌, List, ◌∷◌, ◌++◌, length, map, take, Some, None}
+use Rattle.std.specs.Prelude.{◌≡◌, ℕ, suc, ◌+◌, List, ◌∷◌, ◌++◌, length, map, take, Option, Some, None, option_and_then}
 use Rattle.std.specs.List.{AllZip}
 use Rattle.guards_model.specs.declared.Slot.{Slot}
 use Rattle.guards_model.specs.declared.Slot.TheVariants.{Switch}
-use Rattle.guards_model.specs.Channels.{has}
-use Rattle.guards_model.specs.Missions.{MissionValue, channels_of}
-use Rattle.guards_model.specs.Network.{Log}
+use Rattle.guards_model.specs.Channels.{Channel, has}
+use Rattle.guards_model.specs.Missions.{MissionValue, FormatValue, format_of, channels_of}
+use Rattle.guards_model.specs.Frames.{BodyValue}
+use Rattle.guards_model.specs.Fields.{frame_in}
+use Rattle.guards_model.specs.Network.{EntryValue, Log, counting}
 use Rattle.guards_model.specs.Rounds.{Steps, steps_of}
-use Rattle.guards_runs.specs.Cycles.{Past, Cycle, active_set, cycles_before, cycle_at}
+use Rattle.guards_runs.specs.Cycles.{Past, Cycle, active_set, received_body, cycles_before, cycle_at}
 use Rattle.guards_runs.specs.Disturbed.{disturbed_channels, stop_in, stop_of}
 use Rattle.guards_runs.specs.Due.{Carry, IsDue, IsMadeBy, cycle_carries, carries_through}
 use Rattle.guards_world.specs.NodeFacts.{ledger_at, node_with, state_in}
@@ -67,3 +69,15 @@ abbrev pub IsFront : MissionValue → Log → Log → ℕ → Type 0
 IsFront M L now n =
     AllZip (IsDue M (cycles_before M (L ++ now) n) (cycle_at M (L ++ now) n))
     (take (length now) (cycle_carries n (cycle_at M (L ++ now) n))) now
+
+-- ---- arrivals
+
+-- what a piece is to its receiver: the frame that it spells, where it counts
+abbrev pub read_piece : FormatValue → ℕ → Slot → Channel → ℕ → Option (List ℕ) → Option BodyValue
+read_piece format c slot from to delivered = option_and_then (counting format c slot from to) (option_and_then frame_in delivered)
+
+-- what was delivered of an entry is what its receiver has received by the entries of a cycle
+abbrev pub Arrives : MissionValue → Log → Carry → EntryValue → Type 0
+Arrives M entries carry entry =
+    received_body M entries carry.cycle carry.slot carry.from carry.to
+    ≡ read_piece (format_of M) carry.cycle carry.slot carry.from carry.to entry.delivered

@@ -1,5 +1,6 @@
 //! How the world passes a cycle, slot by slot.
 ghost use Rattle.std.specs.Prelude.{◌≡◌, ◌<◌, true, false, ℕ, suc, [], ◌++◌, length, take, None};
+ghost use Rattle.std.specs.List.{AllZip};
 ghost use Rattle.guards_model.specs.declared.Slot.{Slot};
 ghost use Rattle.guards_model.specs.declared.Slot.TheVariants.{Request, Switch};
 ghost use Rattle.guards_model.specs.Slots.{slot_index, on_bus};
@@ -12,7 +13,7 @@ ghost use Rattle.guards_runs.specs.Due.{slot_carries};
 ghost use Rattle.guards_runs.specs.Promises.{DecideAlike};
 ghost use Rattle.guards_world.specs.Worlds.{WorldValue, StandsForWorld};
 ghost use Rattle.guards_world.specs.InCycle.{InCycle};
-ghost use Rattle.world_laws.specs.Passing.{world_after, world_carried, world_in, AreCarried, StopsIn, IsFront};
+ghost use Rattle.world_laws.specs.Passing.{world_after, world_carried, world_in, AreCarried, Arrives, StopsIn, IsFront};
 
 /// A world for which a log stands, and which has a cycle left, enters it; and within a cycle its nodes and its ledger enter
 /// a slot, or take what it carried.
@@ -42,6 +43,16 @@ pub fn slots_are_carried()
         InCycle M L now steps slot (slot_index slot) (slot_index slot) w →
         AreCarried M (L ++ now) w.done steps (take few (slot_carries w.done (cycle_at M (L ++ now) w.done) slot)) new →
         IsFront M L (now ++ new) w.done }
+{}
+
+/// What was delivered of each entry of the slot is just what its receiver has received by the facts: the frame that the piece
+/// spells, where it counts.
+pub fn pieces_arrive()
+    ensures { (M : MissionValue) (L now new : Log) (steps : Steps) (slot : Slot) (w : WorldValue) → on_bus slot ≡ true →
+        InCycle M L now steps slot (slot_index slot) (slot_index slot) w →
+        AreCarried M (L ++ now) w.done steps (slot_carries w.done (cycle_at M (L ++ now) w.done) slot) new →
+        AllZip (Arrives M (cycle_at M (L ++ (now ++ new)) w.done).entries)
+        (slot_carries w.done (cycle_at M (L ++ now) w.done) slot) new }
 {}
 
 /// Once the rounds are carried, all active channels decide alike, whoever crashes afterwards and wherever the run stops.

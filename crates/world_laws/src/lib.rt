@@ -22,7 +22,9 @@ ghost use Rattle.guards_world.specs.InCycle.{ledger_in};
 
 mod cycle;
 
-pub use cycle::{rounds_settle_decisions, slots_are_carried, slots_are_entered, worlds_go_on};
+pub use cycle::{
+    pieces_arrive, rounds_settle_decisions, slots_are_carried, slots_are_entered, worlds_go_on,
+};
 
 /// The ledger goes from cycle to cycle and from slot to slot as the facts say: it has their modes and their marks of damage.
 pub fn ledger_follows()
