@@ -1,8 +1,8 @@
 -- What was delivered of a carry is what its receiver has received: each carry stands once among the entries of a cycle.
 use Rattle.std.proofs.Common.{◌≡◌, ℕ, ◌==◌, Bool, true, false, cond, not, ◌&&◌, List, [], ◌∷◌, ◌++◌, Option, None, Some, refl, sym, ap, subst, ◌∙◌, eq-eqb, arith}
 use Rattle.std.specs.Prelude.{map, find, flat_map, nat_le, nat_lt, option_and_then}
-use Rattle.std.specs.List.{AllZip, list_all}
-use Rattle.std.proofs.lemmas.Bool.{leb-true, ltb-true}
+use Rattle.std.specs.List.{AllZip, list_all, list_any}
+use Rattle.std.proofs.lemmas.Bool.{leb-true, ltb-true, le-leb}
 use Rattle.guards_model.specs.declared.Slot.{Slot}
 use Rattle.guards_model.specs.declared.Slot.TheVariants.{Request, Round1, Round2, Round3, Tasks, Vote, Sweep, Final, Switch, Output}
 use Rattle.guards_model.specs.Slots.{slot_index, same_slot}
@@ -17,13 +17,13 @@ use Rattle.guards_model.proofs.AscendingLists.{set-distinct}
 use Rattle.guards_model.proofs.BoolTests.{both, and_true, no_first, not_true}
 use Rattle.guards_model.proofs.Counting.{distinct-filter}
 use Rattle.guards_model.proofs.ListTests.{all-append, all-map}
-use Rattle.guards_runs.specs.Cycles.{Past, Cycle, active_set, next_cycle, cycles_before}
+use Rattle.guards_runs.specs.Cycles.{Past, Cycle, active_set, next_cycle, cycles_before, received_body}
 use Rattle.guards_runs.specs.Due.{Carry, IsMadeBy, slot_carries, carries_frames, receivers, is_sender, targets_of}
 use Rattle.guards_laws.proofs.CycleParts.{active-is}
 use Rattle.guards_laws.proofs.Planned.{targets_set, joined_set}
 use Rattle.guards_laws.proofs.WithinChannels.{active_is_set}
 use Rattle.node_laws.proofs.Holding.{all_of_flat}
-use Rattle.world_laws.specs.Passing.{Arrives}
+use Rattle.world_laws.specs.Passing.{Arrives, is_between}
 
 -- ---- carries that are apart
 
@@ -193,3 +193,30 @@ arrives M past e steps carries i now new h late early z =
     ap (λ o. option_and_then (counting (format_of M) k.cycle k.slot k.from k.to) (option_and_then frame_in (option_and_then (λ (w : EntryValue). w.delivered) o)))
     (skip k i now new later early ∙ there))
     (each_found M past e steps carries new h z)
+
+-- ---- nothing else is received
+
+no_match : (a b d : Bool) → (b && d) ≡ false → ((a && b) && d) ≡ false
+no_match true true d h = h
+no_match true false d h = refl
+no_match false b d h = refl
+
+none_found : (M : MissionValue) (past : Past) (e : Cycle) (steps : Steps) (c : ℕ) (slot : Slot) (from to : ℕ) (carries : List Carry) (new : Log) → list_any (is_between from to) carries ≡ false →
+    AllZip (λ k y. IsMadeBy M past e (steps_of steps k.from) k y) carries new → find (is_carry c slot from to) new ≡ None
+none_found M past e steps c slot from to [] [] h z = refl
+none_found M past e steps c slot from to [] (y ∷ new) h z = absurd z
+none_found M past e steps c slot from to (x ∷ carries) [] h z = absurd z
+none_found M past e steps c slot from to (x ∷ carries) (y ∷ new) h z =
+    let parts = no_first (is_between from to x) (list_any (is_between from to) carries) h in
+    let other : (y.from == from && y.to == to) ≡ false =
+    subst (λ f. (f == from && y.to == to) ≡ false) (sym z.0.from) (subst (λ t. (x.from == from && t == to) ≡ false) (sym z.0.to) parts.0) in
+    ap (λ b. cond b (Some y) (find (is_carry c slot from to) new)) (no_match (y.cycle == c && same_slot y.slot slot) (y.from == from) (y.to == to) other)
+    ∙ none_found M past e steps c slot from to carries new parts.1 z.1
+
+pub nothing_else : (M : MissionValue) (past : Past) (e : Cycle) (steps : Steps) (c : ℕ) (slot : Slot) (from to : ℕ) (carries : List Carry) (now new : Log) →
+    list_any (is_between from to) carries ≡ false → list_all (λ (y : EntryValue). nat_lt (slot_index y.slot) (slot_index slot)) now ≡ true →
+    AllZip (λ k y. IsMadeBy M past e (steps_of steps k.from) k y) carries new → received_body M (now ++ new) c slot from to ≡ None
+nothing_else M past e steps c slot from to carries now new absent early z =
+    ap (λ o. option_and_then (counting (format_of M) c slot from to) (option_and_then frame_in (option_and_then (λ (w : EntryValue). w.delivered) o)))
+    (skip (record { cycle = c; slot = slot; from = from; to = to }) (slot_index slot) now new (le-leb (slot_index slot) (slot_index slot) (omega arith)) early
+    ∙ none_found M past e steps c slot from to carries new absent z)

@@ -1,7 +1,7 @@
 -- A cycle is entered, its slots are entered, carried and handed over, and one of them may stop the run.
 use Rattle.std.proofs.Common.{◌≡◌, ℕ, zero, suc, ◌+◌, ◌<◌, ◌==◌, Bool, true, false, cond, ◌&&◌, List, [], ◌∷◌, ◌++◌, length, None, Some, refl, sym, ap, subst, ◌∙◌, append_assoc, arith}
 use Rattle.std.specs.Prelude.{map, find, take, drop, flat_map, nat_le, nat_lt, option_map}
-use Rattle.std.specs.List.{AllZip, list_all}
+use Rattle.std.specs.List.{AllZip, list_all, list_any}
 use Rattle.std.proofs.Math.Path.{fun_ext}
 use Rattle.std.proofs.lemmas.Bool.{leb-true, le-leb, eqb-true}
 use Rattle.std.proofs.lemmas.List.{append-nil, length-append}
@@ -16,7 +16,7 @@ use Rattle.guards_model.specs.Network.{EntryValue, Log}
 use Rattle.guards_model.specs.Rounds.{Steps, steps_of}
 use Rattle.guards_model.proofs.BoolTests.{both, and_true}
 use Rattle.guards_model.proofs.ListTests.{all-append, all-flat_map, all-map}
-use Rattle.guards_runs.specs.Cycles.{Past, Cycle, cycle_from, next_cycle, cycles_before, cycle_at, entries_of, active_set}
+use Rattle.guards_runs.specs.Cycles.{Past, Cycle, cycle_from, next_cycle, cycles_before, cycle_at, entries_of, active_set, received_body}
 use Rattle.guards_runs.specs.Disturbed.{halts, stop_of, disturbed_channels}
 use Rattle.guards_runs.specs.Due.{Carry, IsDue, IsMadeBy, AreDue, slot_carries, cycle_carries, carries_through, carries_frames, receivers, is_sender}
 use Rattle.guards_runs.specs.Promises.{DecideAlike}
@@ -29,9 +29,9 @@ use Rattle.guards_runs.specs.SlotFacts.{AreFromPlace}
 use Rattle.guards_world.specs.InCycle.{InCycle, carries_done, node_in, ledger_in}
 use Rattle.guards_world.specs.Worlds.{WorldValue, StandsForWorld}
 use Rattle.node_laws.proofs.Staying.{node_stays}
-use Rattle.world_laws.specs.Passing.{world_carried, world_in, AreCarried, StopsIn, IsFront, Arrives}
+use Rattle.world_laws.specs.Passing.{world_carried, world_in, AreCarried, StopsIn, IsFront, Arrives, is_between}
 use Rattle.node_laws.proofs.Holding.{all_of_flat}
-use Rattle.world_laws.proofs.Arriving.{arrives, carries_apart}
+use Rattle.world_laws.proofs.Arriving.{arrives, carries_apart, nothing_else}
 use Rattle.world_laws.proofs.Carrying.{zip_append, carries_same, is_n, one_place, through_slot, carries_next, placed, placed_carries, grown, stay_made, stay_new, halts_same, ledger_same, earlier_slots}
 
 -- ---- a cycle is entered
@@ -315,6 +315,14 @@ module _ (M : MissionValue) (L now new : Log) (steps : Steps) (slot : Slot) (on 
         (in_slot n e slot (λ s. nat_le (slot_index slot) (slot_index s)) (le-leb (slot_index slot) (slot_index slot) (omega arith)))
         (slots_made M past e steps (λ s. nat_lt (slot_index s) (slot_index slot)) (carries_done n e (slot_index slot)) now (done_before n e slot on) inside.current)
         carried_all)
+
+    -- and nothing else is received in the slot
+    pub nothing_else_arrives : (from to : ℕ) → list_any (is_between from to) (slot_carries n e slot) ≡ false → received_body M after.entries n slot from to ≡ None
+    nothing_else_arrives from to absent =
+        ap (λ entries. received_body M entries n slot from to) cycle_entries
+        ∙ nothing_else M past e steps n slot from to (slot_carries n e slot) now new absent
+        (slots_made M past e steps (λ s. nat_lt (slot_index s) (slot_index slot)) (carries_done n e (slot_index slot)) now (done_before n e slot on) inside.current)
+        carried_all
 
   -- as far as it was carried, it is a front of the due entries
   pub breaks_slot : IsFront M L (now ++ new) n

@@ -1,5 +1,5 @@
 -- The world when a slot of a cycle is passed, and when all of them are.
-use Rattle.std.specs.Prelude.{◌≡◌, ℕ, suc, ◌+◌, List, ◌∷◌, ◌++◌, length, map, take, Option, Some, None, option_and_then}
+use Rattle.std.specs.Prelude.{◌≡◌, ◌==◌, ◌&&◌, Bool, ℕ, suc, ◌+◌, List, ◌∷◌, ◌++◌, length, map, take, Option, Some, None, option_and_then}
 use Rattle.std.specs.List.{AllZip}
 use Rattle.guards_model.specs.declared.Slot.{Slot}
 use Rattle.guards_model.specs.declared.Slot.TheVariants.{Switch}
@@ -81,3 +81,7 @@ abbrev pub Arrives : MissionValue → Log → Carry → EntryValue → Type 0
 Arrives M entries carry entry =
     received_body M entries carry.cycle carry.slot carry.from carry.to
     ≡ read_piece (format_of M) carry.cycle carry.slot carry.from carry.to entry.delivered
+
+-- whether a carry is between these two
+abbrev pub is_between : Channel → ℕ → Carry → Bool
+is_between from to carry = carry.from == from && carry.to == to

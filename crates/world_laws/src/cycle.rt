@@ -1,19 +1,19 @@
 //! How the world passes a cycle, slot by slot.
 ghost use Rattle.std.specs.Prelude.{◌≡◌, ◌<◌, true, false, ℕ, suc, [], ◌++◌, length, take, None};
-ghost use Rattle.std.specs.List.{AllZip};
+ghost use Rattle.std.specs.List.{AllZip, list_any};
 ghost use Rattle.guards_model.specs.declared.Slot.{Slot};
 ghost use Rattle.guards_model.specs.declared.Slot.TheVariants.{Request, Switch};
 ghost use Rattle.guards_model.specs.Slots.{slot_index, on_bus};
 ghost use Rattle.guards_model.specs.Missions.{MissionValue};
 ghost use Rattle.guards_model.specs.Network.{Log};
 ghost use Rattle.guards_model.specs.Rounds.{Steps};
-ghost use Rattle.guards_runs.specs.Cycles.{cycles_before, cycle_at};
+ghost use Rattle.guards_runs.specs.Cycles.{cycles_before, cycle_at, received_body};
 ghost use Rattle.guards_runs.specs.Disturbed.{halts};
 ghost use Rattle.guards_runs.specs.Due.{slot_carries};
 ghost use Rattle.guards_runs.specs.Promises.{DecideAlike};
 ghost use Rattle.guards_world.specs.Worlds.{WorldValue, StandsForWorld};
 ghost use Rattle.guards_world.specs.InCycle.{InCycle};
-ghost use Rattle.world_laws.specs.Passing.{world_after, world_carried, world_in, AreCarried, Arrives, StopsIn, IsFront};
+ghost use Rattle.world_laws.specs.Passing.{world_after, world_carried, world_in, AreCarried, Arrives, is_between, StopsIn, IsFront};
 
 /// A world for which a log stands, and which has a cycle left, enters it; and within a cycle its nodes and its ledger enter
 /// a slot, or take what it carried.
@@ -46,13 +46,18 @@ pub fn slots_are_carried()
 {}
 
 /// What was delivered of each entry of the slot is just what its receiver has received by the facts: the frame that the piece
-/// spells, where it counts.
+/// spells, where it counts; and between other pairs nothing is received.
 pub fn pieces_arrive()
-    ensures { (M : MissionValue) (L now new : Log) (steps : Steps) (slot : Slot) (w : WorldValue) → on_bus slot ≡ true →
+    ensures each { (M : MissionValue) (L now new : Log) (steps : Steps) (slot : Slot) (w : WorldValue) → on_bus slot ≡ true →
         InCycle M L now steps slot (slot_index slot) (slot_index slot) w →
         AreCarried M (L ++ now) w.done steps (slot_carries w.done (cycle_at M (L ++ now) w.done) slot) new →
         AllZip (Arrives M (cycle_at M (L ++ (now ++ new)) w.done).entries)
         (slot_carries w.done (cycle_at M (L ++ now) w.done) slot) new }
+    ensures nothing_else { (M : MissionValue) (L now new : Log) (steps : Steps) (slot : Slot) (w : WorldValue) (from to : ℕ) →
+        on_bus slot ≡ true → InCycle M L now steps slot (slot_index slot) (slot_index slot) w →
+        AreCarried M (L ++ now) w.done steps (slot_carries w.done (cycle_at M (L ++ now) w.done) slot) new →
+        list_any (is_between from to) (slot_carries w.done (cycle_at M (L ++ now) w.done) slot) ≡ false →
+        received_body M (cycle_at M (L ++ (now ++ new)) w.done).entries w.done slot from to ≡ None }
 {}
 
 /// Once the rounds are carried, all active channels decide alike, whoever crashes afterwards and wherever the run stops.
