@@ -220,3 +220,10 @@ nothing_else M past e steps c slot from to carries now new absent early z =
     ap (λ o. option_and_then (counting (format_of M) c slot from to) (option_and_then frame_in (option_and_then (λ (w : EntryValue). w.delivered) o)))
     (skip (record { cycle = c; slot = slot; from = from; to = to }) (slot_index slot) now new (le-leb (slot_index slot) (slot_index slot) (omega arith)) early
     ∙ none_found M past e steps c slot from to carries new absent z)
+
+-- entries of earlier slots change nothing of what is received in a slot
+pub slot_alone : (M : MissionValue) (c : ℕ) (slot : Slot) (from to : ℕ) (now new : Log) → list_all (λ (y : EntryValue). nat_lt (slot_index y.slot) (slot_index slot)) now ≡ true →
+    received_body M (now ++ new) c slot from to ≡ received_body M new c slot from to
+slot_alone M c slot from to now new early =
+    ap (λ o. option_and_then (counting (format_of M) c slot from to) (option_and_then frame_in (option_and_then (λ (w : EntryValue). w.delivered) o)))
+    (skip (record { cycle = c; slot = slot; from = from; to = to }) (slot_index slot) now new (le-leb (slot_index slot) (slot_index slot) (omega arith)) early)

@@ -31,7 +31,7 @@ use Rattle.guards_world.specs.Worlds.{WorldValue, StandsForWorld}
 use Rattle.node_laws.proofs.Staying.{node_stays}
 use Rattle.world_laws.specs.Passing.{world_carried, world_in, AreCarried, StopsIn, IsFront, Arrives, is_between}
 use Rattle.node_laws.proofs.Holding.{all_of_flat}
-use Rattle.world_laws.proofs.Arriving.{arrives, carries_apart, nothing_else}
+use Rattle.world_laws.proofs.Arriving.{arrives, carries_apart, nothing_else, slot_alone}
 use Rattle.world_laws.proofs.Carrying.{zip_append, carries_same, is_n, one_place, through_slot, carries_next, placed, placed_carries, grown, stay_made, stay_new, halts_same, ledger_same, earlier_slots}
 
 -- ---- a cycle is entered
@@ -315,6 +315,13 @@ module _ (M : MissionValue) (L now new : Log) (steps : Steps) (slot : Slot) (on 
         (in_slot n e slot (λ s. nat_le (slot_index slot) (slot_index s)) (le-leb (slot_index slot) (slot_index slot) (omega arith)))
         (slots_made M past e steps (λ s. nat_lt (slot_index s) (slot_index slot)) (carries_done n e (slot_index slot)) now (done_before n e slot on) inside.current)
         carried_all)
+
+    -- it is read from the entries of the slot alone
+    pub alone : (from to : ℕ) → received_body M after.entries n slot from to ≡ received_body M new n slot from to
+    alone from to =
+        ap (λ entries. received_body M entries n slot from to) cycle_entries
+        ∙ slot_alone M n slot from to now new
+        (slots_made M past e steps (λ s. nat_lt (slot_index s) (slot_index slot)) (carries_done n e (slot_index slot)) now (done_before n e slot on) inside.current)
 
     -- and nothing else is received in the slot
     pub nothing_else_arrives : (from to : ℕ) → list_any (is_between from to) (slot_carries n e slot) ≡ false → received_body M after.entries n slot from to ≡ None

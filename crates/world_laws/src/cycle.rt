@@ -46,13 +46,18 @@ pub fn slots_are_carried()
 {}
 
 /// What was delivered of each entry of the slot is just what its receiver has received by the facts: the frame that the piece
-/// spells, where it counts; and between other pairs nothing is received.
+/// spells, where it counts. The slot's entries alone say it, and between other pairs nothing is received.
 pub fn pieces_arrive()
     ensures each { (M : MissionValue) (L now new : Log) (steps : Steps) (slot : Slot) (w : WorldValue) → on_bus slot ≡ true →
         InCycle M L now steps slot (slot_index slot) (slot_index slot) w →
         AreCarried M (L ++ now) w.done steps (slot_carries w.done (cycle_at M (L ++ now) w.done) slot) new →
         AllZip (Arrives M (cycle_at M (L ++ (now ++ new)) w.done).entries)
         (slot_carries w.done (cycle_at M (L ++ now) w.done) slot) new }
+    ensures slot_alone { (M : MissionValue) (L now new : Log) (steps : Steps) (slot : Slot) (w : WorldValue) (from to : ℕ) →
+        on_bus slot ≡ true → InCycle M L now steps slot (slot_index slot) (slot_index slot) w →
+        AreCarried M (L ++ now) w.done steps (slot_carries w.done (cycle_at M (L ++ now) w.done) slot) new →
+        received_body M (cycle_at M (L ++ (now ++ new)) w.done).entries w.done slot from to
+        ≡ received_body M new w.done slot from to }
     ensures nothing_else { (M : MissionValue) (L now new : Log) (steps : Steps) (slot : Slot) (w : WorldValue) (from to : ℕ) →
         on_bus slot ≡ true → InCycle M L now steps slot (slot_index slot) (slot_index slot) w →
         AreCarried M (L ++ now) w.done steps (slot_carries w.done (cycle_at M (L ++ now) w.done) slot) new →

@@ -2,7 +2,7 @@ use Rattle.std.proofs.Common.{◌++◌, length, refl, sym, subst}
 use Rattle.guards_runs.specs.Cycles.{cycle_at}
 use Rattle.guards_runs.specs.Due.{slot_carries}
 use Rattle.world_laws.specs.Passing.{AreCarried}
-use Rattle.world_laws.proofs.Passing.{take_all, arrives_slot, nothing_else_arrives}
+use Rattle.world_laws.proofs.Passing.{take_all, arrives_slot, nothing_else_arrives, alone}
 use Rattle.world_laws.proofs.cycle.pieces_arrive.Goals as goal
 
 pub returns-clause-each : goal.returns-clause-each
@@ -18,3 +18,10 @@ returns-clause-nothing_else c =
     let carries = slot_carries w.done (cycle_at M (L ++ now) w.done) slot in
     nothing_else_arrives M L now new steps slot on w inside (length carries)
     (subst (λ ks. AreCarried M (L ++ now) w.done steps ks new) (sym (take_all carries)) carried) refl from to absent
+
+pub returns-clause-slot_alone : goal.returns-clause-slot_alone
+returns-clause-slot_alone c =
+    λ M L now new steps slot w from to on inside carried.
+    let carries = slot_carries w.done (cycle_at M (L ++ now) w.done) slot in
+    alone M L now new steps slot on w inside (length carries)
+    (subst (λ ks. AreCarried M (L ++ now) w.done steps ks new) (sym (take_all carries)) carried) refl from to
