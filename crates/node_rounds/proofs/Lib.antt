@@ -1,0 +1,4 @@
+pub mod TreeLevels
+pub mod Fitting
+pub mod Written
+pub mod Lengths
