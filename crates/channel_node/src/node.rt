@@ -64,6 +64,13 @@ impl Node {
         })
     }
 
+    /// Its channel.
+    pub fn channel(&self) -> Chan
+        ensures { result ≡ self.now.channel }
+    {
+        self.channel
+    }
+
     /// Its mode.
     pub fn mode(&self) -> Mode
         ensures { result ≡ mode_of self.now.state }
