@@ -1,5 +1,18 @@
-//! Documents of missions with faults, as tests.
+//! Documents of missions, as tests: every field missing, of another type, too small and too large, and which of two faults is
+//! answered.
 #![tactic(auto)]
 
 #[cfg(test)]
-mod tests;
+mod answers;
+#[cfg(test)]
+mod core_rows;
+#[cfg(test)]
+mod entry_rows;
+#[cfg(test)]
+mod length_rows;
+#[cfg(test)]
+mod order_rows;
+#[cfg(test)]
+mod output_rows;
+#[cfg(test)]
+mod program_rows;

@@ -1,0 +1,186 @@
+//! Lengths and counts.
+
+use crate::answers::{answer, changed, repeated};
+use std::alloc::Global;
+use std::test::Fail;
+
+#[test]
+fn lengths(rt: HostRuntime) -> Result<(), Fail> {
+    for (old, front, one, count, back, want) in [
+        (
+            "writes = [{ block = 1, w3 = \"sat(in1, -5, 5)\" }]",
+            "writes = [",
+            "{ block = 1, w3 = \"1\" }, ",
+            16,
+            "{ block = 1, w3 = \"1\" }]",
+            "out-of-range task[1].writes",
+        ),
+        (
+            "writes = [{ block = 1, w3 = \"sat(in1, -5, 5)\" }]",
+            "writes = [",
+            "{ block = 1, w3 = \"1\" }, ",
+            15,
+            "{ block = 1, w3 = \"1\" }]",
+            "read",
+        ),
+        (
+            "w3 = \"sat(in1, -5, 5)\"",
+            "w3 = \"",
+            " ",
+            1099,
+            "1\"",
+            "read",
+        ),
+        (
+            "w3 = \"sat(in1, -5, 5)\"",
+            "w3 = \"",
+            " ",
+            1100,
+            "1\"",
+            "bad-expr task[1].writes[0].w3 at 1100",
+        ),
+        (
+            "w3 = \"sat(in1, -5, 5)\"",
+            "w3 = \"",
+            "x",
+            1101,
+            "\"",
+            "bad-expr task[1].writes[0].w3 at 1100",
+        ),
+        (
+            "table = [[\"sum\", \"keep\"], [], [\"keep\"]]",
+            "table = [[], [",
+            "\"sum\", ",
+            16,
+            "\"sum\"]]",
+            "out-of-range table[1]",
+        ),
+        (
+            "table = [[\"sum\", \"keep\"], [], [\"keep\"]]",
+            "table = [[], [",
+            "\"sum\", ",
+            15,
+            "\"sum\"]]",
+            "read",
+        ),
+        (
+            "sensors = [[[1, 2], [3, 4], [5, 6]], [[-1, -2], [-3, -4], [-5, -6]]]",
+            "sensors = [",
+            "[[1, 2], [3, 4], [5, 6]], ",
+            63,
+            "[[1, 2], [3, 4], [5, 6]]]",
+            "read",
+        ),
+        (
+            "sensors = [[[1, 2], [3, 4], [5, 6]], [[-1, -2], [-3, -4], [-5, -6]]]",
+            "sensors = [",
+            "[[1, 2], [3, 4], [5, 6]], ",
+            64,
+            "[[1, 2], [3, 4], [5, 6]]]",
+            "out-of-range sensors",
+        ),
+        (
+            "bytes = \"00ff\"\n",
+            "bytes = \"00ff\"\n",
+            "[[fault]]\nkind = \"restart\"\ncycle = 0\nchannel = 0\n",
+            1019,
+            "",
+            "read",
+        ),
+        (
+            "bytes = \"00ff\"\n",
+            "bytes = \"00ff\"\n",
+            "[[fault]]\nkind = \"restart\"\ncycle = 0\nchannel = 0\n",
+            1020,
+            "",
+            "out-of-range fault",
+        ),
+        (
+            "bytes = \"00ff\"\n",
+            "bytes = \"",
+            "00",
+            4300,
+            "\"\n",
+            "read",
+        ),
+        (
+            "bytes = \"00ff\"\n",
+            "bytes = \"",
+            "00",
+            4301,
+            "\"\n",
+            "out-of-range fault[4].bytes",
+        ),
+    ] {
+        let new = repeated(rt.alloc(), front, one, count, back)?;
+        assert_eq!(rt;
+            changed(rt.alloc(), old, new.as_str())?.as_str(),
+            want,
+            "{front} {count}"
+        );
+    }
+    Ok(())
+}
+
+// The head of a mission without tasks, rows and blocks of its own, after the keys in front.
+const HEAD: &str = "outputs = [\"b0.0\"]
+sensors = [[[1], [2], [3]]]
+[core]
+channels = 3
+cycles = 1
+blocks = 256
+width = 1
+";
+
+// The answer to a mission with so many tasks and so many elements of `init`.
+fn counted(alloc: Global, front: &str, tasks: usize, blocks: usize) -> Result<String, Fail> {
+    let mut text = String::from_str(alloc, front)?;
+    text.push_str(HEAD)?;
+    for block in 0..blocks {
+        let element = format!(in alloc;
+            "[[init]]\nblock = {block}\nwords = [0, 0, 0, 0, 0, 0, 0, 9]\n"
+        )?;
+        text.push_str(element.as_str())?;
+    }
+    for task in 0..tasks {
+        let element = format!(in alloc;
+            "[[task]]\nname = \"t{task}\"\nwrites = [{{ block = 255, w0 = \"1\" }}]\n"
+        )?;
+        text.push_str(element.as_str())?;
+    }
+    answer(alloc, text.as_bytes())
+}
+
+#[test]
+fn counts_of_tasks_and_blocks(rt: HostRuntime) -> Result<(), Fail> {
+    for (front, tasks, blocks, want) in [
+        ("table = [[\"t0\", \"t63\"]]\n", 64, 256, "read"),
+        (
+            "table = [[\"t0\", \"t63\"]]\n",
+            65,
+            256,
+            "out-of-range task",
+        ),
+        (
+            "table = [[\"t0\", \"t63\"]]\n",
+            64,
+            257,
+            "out-of-range init",
+        ),
+        (
+            "table = [[\"t0\", \"t63\"]]\n",
+            63,
+            0,
+            "unknown table[0][1]",
+        ),
+        ("table = [[]]\ntask = []\n", 0, 0, "out-of-range task"),
+        ("table = [[]]\ninit = []\n", 1, 0, "read"),
+    ] {
+        assert_eq!(rt;
+            counted(rt.alloc(), front, tasks, blocks)?.as_str(),
+            want,
+            "{front} {tasks} {blocks}"
+        );
+    }
+    Ok(())
+}
