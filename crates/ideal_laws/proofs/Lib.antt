@@ -1,0 +1,3 @@
+pub mod Calm
+pub mod QuietCycles
+pub mod IdealReports
