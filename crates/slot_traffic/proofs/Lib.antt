@@ -1,0 +1,5 @@
+pub mod Charging
+pub mod Finding
+pub mod Reading
+pub mod Carrying
+pub mod Members

@@ -1,0 +1,6 @@
+pub mod Counting
+pub mod Receiving
+pub mod Pieces
+pub mod Arrivals
+pub mod Carried
+pub mod Sending

@@ -1,0 +1,82 @@
+//! The pieces of one frame: what was delivered to each receiver.
+ghost use Rattle.std.specs.Prelude.{◌≡◌, map, IfOk, OnErr, option_map};
+ghost use Rattle.std.specs.List.{AllByRecursion};
+ghost use Rattle.guards_model.specs.Frames.{FrameValue};
+ghost use Rattle.guards_runs.specs.Disturbed.{differs_from};
+ghost use Rattle.slot_traffic.specs.Arrivals.{IsMarked, delivered_of, is_changed, piece_value};
+ghost use Rattle.slot_traffic.specs.Carried.{AreDelivered, AreSomeDelivered};
+
+use guards_base::{Bytes, Chan, Sequence, Slot};
+use icn_bus::Bus;
+use icn_frames::Frame;
+use std::alloc::{AllocError, Global};
+
+/// What was delivered of a piece.
+#[derive(Drop)]
+pub enum Arrival {
+    /// It arrived as it was sent.
+    AsSent,
+    Lost,
+    /// These bytes arrived, which are not the ones that were sent.
+    Changed(Bytes),
+}
+
+/// What was delivered to a receiver, a channel or 7 for the switchboard.
+#[derive(Drop)]
+pub struct Piece {
+    pub to: u8,
+    pub arrival: Arrival,
+}
+
+/// The frame that was read of a piece.
+#[derive(Drop)]
+pub enum Reading {
+    /// That of the sender.
+    Own,
+    /// This one, or none.
+    Other(Option<Frame>),
+}
+
+/// Compares what was delivered with what was sent.
+fn arrival_of(sent: &[u8], delivered: Option<Bytes>) -> Arrival
+    ensures delivered { delivered_of sent.now result ≡ option_map (λ piece. piece.items) delivered }
+    ensures marked { is_changed result ≡ differs_from sent.now (delivered_of sent.now result) }
+{
+    match delivered {
+        None => Arrival::Lost,
+        Some(piece) => {
+            if sent == piece.as_slice() {
+                Arrival::AsSent
+            } else {
+                Arrival::Changed(piece)
+            }
+        }
+    }
+}
+
+/// Carries a piece to each receiver, in order, and answers what was delivered.
+pub fn carry_to_each<B: Bus>(
+    alloc: Global,
+    bus: &mut B,
+    cycle: u32,
+    slot: Slot,
+    from: Chan,
+    receivers: &[u8],
+    sent: &[u8],
+) -> Result<Sequence<Piece>, AllocError>
+    ensures script { B.script bus.new ≡ B.script bus.old }
+    ensures carried { IfOk result (λ pieces. AreDelivered B.may (B.script bus.old) (B.log bus.old) (B.log bus.new)
+        cycle slot from receivers.now sent.now (map (piece_value sent.now) pieces.items)) }
+    ensures marked { IfOk result (λ pieces. AllByRecursion (IsMarked sent.now) pieces.items) }
+    ensures some { OnErr result (AreSomeDelivered B.may (B.script bus.old) (B.log bus.old) (B.log bus.new)
+        cycle slot from receivers.now sent.now) }
+{
+    let mut pieces = Sequence::new(alloc);
+    pieces.reserve(receivers.len())?;
+    for to in receivers {
+        let delivered = bus.carry(cycle, slot, from, *to, sent)?;
+        let arrival = arrival_of(sent, delivered);
+        pieces.push_reserved(Piece { to: *to, arrival });
+    }
+    Ok(pieces)
+}

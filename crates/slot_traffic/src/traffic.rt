@@ -1,0 +1,211 @@
+//! The traffic of a slot, and what arrived of it.
+ghost use Rattle.std.specs.Prelude.{◌≡◌, ℕ, IsTrue, List, [], find, option_and_then, option_map, IfOk, IfSome, OnOk, OnErr};
+ghost use Rattle.std.specs.List.{list_any};
+ghost use Rattle.std.specs.Option.{option_copied};
+ghost use Rattle.guards_model.specs.declared.Slot.{Slot};
+ghost use Rattle.guards_model.specs.Channels.{channels_where};
+ghost use Rattle.guards_model.specs.Frames.{body_in_range, in_range, spelling};
+ghost use Rattle.guards_model.specs.Fields.{frame_in};
+ghost use Rattle.guards_model.specs.Network.{counted_body, is_carry};
+ghost use Rattle.guards_runs.specs.Disturbed.{is_charge};
+ghost use Rattle.icn_frames.specs.Bodies.{view_body};
+ghost use Rattle.slot_traffic.specs.Pieces.{entries_of, entries_of_all};
+ghost use Rattle.slot_traffic.specs.Receiving.{receiver_numbers};
+ghost use Rattle.slot_traffic.specs.Sending.{AreCarried, Sends, SendsSome, carries_from};
+
+use crate::format::Format;
+use crate::opened::Opened;
+use crate::parcel::{Parcel, sender_of};
+use crate::piece::carry_to_each;
+use crate::receivers::Receivers;
+use guards_base::{Chan, ChanSet, Sequence, Slot};
+use icn_bus::Bus;
+use icn_frames::{Body, Frame, encode};
+use std::alloc::{AllocError, Global};
+use std::marker::Model;
+
+/// What was carried in a slot of a cycle: the frames, and of each piece what was delivered. Contracts see its entries,
+/// the same as in the log of the bus.
+#[derive(Drop)]
+pub struct Traffic {
+    alloc: Global,
+    cycle: u32,
+    slot: Slot,
+    parcels: Sequence<Parcel>,
+}
+
+impl Model for Traffic {
+    ghost use Rattle.slot_traffic.specs.Pieces.{TrafficValue, entries_of_all};
+
+    ghost Value = { TrafficValue };
+
+    ghost view = { λ t. record { cycle = t.cycle; slot = t.slot; entries = entries_of_all t.cycle t.slot t.parcels.items } };
+}
+
+/// The traffic of a slot, read by a format.
+#[derive(Drop)]
+pub struct Arrived {
+    format: Format,
+    cycle: u32,
+    slot: Slot,
+    parcels: Sequence<Opened>,
+}
+
+impl Model for Arrived {
+    ghost use Rattle.slot_traffic.specs.Pieces.{ArrivedValue, entries_of_all};
+
+    ghost Value = { ArrivedValue };
+
+    ghost view = { λ a. record { format = a.format; traffic = record { cycle = a.cycle; slot = a.slot; entries = entries_of_all a.cycle a.slot a.parcels.items } } };
+}
+
+/// Encodes a frame once, and carries it to each receiver but its sender.
+fn carried<B: Bus>(
+    alloc: Global,
+    bus: &mut B,
+    cycle: u32,
+    slot: Slot,
+    frame: Frame,
+    receivers: Receivers,
+) -> Result<Parcel, AllocError>
+    requires { IsTrue (in_range frame) }
+    ensures script { B.script bus.new ≡ B.script bus.old }
+    ensures sent { IfOk result (λ parcel. AreCarried B.may (B.script bus.old) (B.log bus.old) (B.log bus.new) (spelling frame)
+        (carries_from cycle slot frame.sender (receiver_numbers receivers)) (entries_of cycle slot parcel)) }
+    ensures some { OnErr result (SendsSome B.may (B.script bus.old) (B.log bus.old) (B.log bus.new) (spelling frame)
+        (carries_from cycle slot frame.sender (receiver_numbers receivers))) }
+{
+    let sender = sender_of(&frame);
+    let numbers = receivers.but(alloc, sender)?;
+    let sent = encode(alloc, &frame)?;
+    match carry_to_each(
+        alloc,
+        bus,
+        cycle,
+        slot,
+        sender,
+        numbers.as_slice(),
+        sent.as_slice(),
+    ) {
+        Ok(pieces) => Ok(Parcel::new(frame, pieces)),
+        Err(error) => Err(error),
+    }
+}
+
+/// The senders of whom a piece was not delivered as sent.
+fn charged_of(parcels: &[Parcel]) -> ChanSet
+    ensures { (c : ℕ) (slot : Slot) → result ≡ channels_where (λ q. list_any (is_charge c slot q) (entries_of_all c slot parcels.now)) }
+{
+    let Some((parcel, rest)) = parcels.split_first() else {
+        return ChanSet::empty();
+    };
+    let others = charged_of(rest);
+    if parcel.is_changed() {
+        others.with(parcel.sender())
+    } else {
+        others
+    }
+}
+
+/// Reads each parcel.
+fn opened(alloc: Global, parcels: Vec<Parcel>) -> Result<Sequence<Opened>, AllocError>
+    ensures { IfOk result (λ all. all.items ≡ parcels.items) }
+{
+    let mut all = Sequence::new(alloc);
+    for parcel in parcels {
+        let one = Opened::of(alloc, parcel)?;
+        all.push(one)?;
+    }
+    Ok(all)
+}
+
+/// The frame that the first piece between these two spells.
+fn frame_between(parcels: &[Opened], from: Chan, to: u8) -> Option<&Frame>
+    ensures same { (c : ℕ) (slot : Slot) → option_copied result ≡ option_and_then frame_in (option_and_then (λ e. e.delivered)
+        (find (is_carry c slot from to) (entries_of_all c slot parcels.now))) }
+    ensures range { IfSome result (λ frame. IsTrue (in_range frame.now)) }
+{
+    let (parcel, rest) = parcels.split_first()?;
+    if parcel.is_between(from, to) {
+        parcel.frame_to(to)
+    } else {
+        frame_between(rest, from, to)
+    }
+}
+
+impl Traffic {
+    /// Nothing was carried yet in this slot.
+    pub fn begin(alloc: Global, cycle: u32, slot: Slot) -> Traffic
+        ensures { result ≡ record { cycle = cycle; slot = slot; entries = [] } }
+    {
+        Traffic {
+            alloc,
+            cycle,
+            slot,
+            parcels: Sequence::new(alloc),
+        }
+    }
+
+    /// Carries a frame to each receiver but its sender, in ascending order. It is encoded once.
+    ///
+    /// For want of memory the first few receivers may have been served, and the traffic is as it was.
+    pub fn send<B: Bus>(
+        &mut self,
+        bus: &mut B,
+        frame: Frame,
+        receivers: Receivers,
+    ) -> Result<(), AllocError>
+        requires { IsTrue (in_range frame) }
+        ensures script { B.script bus.new ≡ B.script bus.old }
+        ensures sent { OnOk result (Sends B.may (B.script bus.old) (B.log bus.old) (B.log bus.new) (spelling frame)
+            (carries_from self.old.cycle self.old.slot frame.sender (receiver_numbers receivers)) self.old self.new) }
+        ensures some { OnErr result (SendsSome B.may (B.script bus.old) (B.log bus.old) (B.log bus.new) (spelling frame)
+            (carries_from self.old.cycle self.old.slot frame.sender (receiver_numbers receivers))) }
+        ensures refused { OnErr result (self.new ≡ self.old) }
+    {
+        self.parcels.reserve(1)?;
+        match carried(self.alloc, bus, self.cycle, self.slot, frame, receivers) {
+            Ok(parcel) => {
+                self.parcels.push_reserved(parcel);
+                Ok(())
+            }
+            Err(error) => Err(error),
+        }
+    }
+
+    /// The senders of whom a piece was not delivered as sent.
+    pub fn charged(&self) -> ChanSet
+        ensures { result ≡ channels_where (λ q. list_any (is_charge self.now.cycle self.now.slot q) self.now.entries) }
+    {
+        charged_of(self.parcels.as_slice())
+    }
+
+    /// Reads what was delivered. What arrived as sent is not decoded.
+    pub fn read(self, format: Format) -> Result<Arrived, AllocError>
+        ensures { IfOk result (λ arrived. arrived ≡ record { format = format; traffic = self }) }
+    {
+        Ok(Arrived {
+            format,
+            cycle: self.cycle,
+            slot: self.slot,
+            parcels: opened(self.alloc, self.parcels.into_vec())?,
+        })
+    }
+}
+
+impl Arrived {
+    /// What a receiver, a channel or 7 for the switchboard, received of a sender: nothing where nothing was carried between
+    /// them or delivered, or where it does not count.
+    pub fn body(&self, from: Chan, to: u8) -> Option<&Body>
+        ensures received { option_map view_body (option_copied result)
+            ≡ counted_body self.now.format self.now.traffic.entries self.now.traffic.cycle self.now.traffic.slot from to }
+        ensures range { IfSome result (λ body. IsTrue (body_in_range self.now.format.version from (view_body body.now))) }
+    {
+        let frame = frame_between(self.parcels.as_slice(), from, to)?;
+        if self.format.counts(self.cycle, self.slot, from, to, frame) {
+            Some(&frame.body)
+        } else {
+            None
+        }
+    }
+}
