@@ -1,0 +1,6 @@
+pub mod Tables
+pub mod Reading
+pub mod Passing
+pub mod CoreRanges
+pub mod KeyRanges
+pub mod WholeMission
