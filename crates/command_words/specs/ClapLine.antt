@@ -1,0 +1,57 @@
+-- The command line as `clap` is told it, and the command of what it finds.
+use Rattle.std.specs.Prelude.{ℕ, Bool, true, false, List, [], Option, Some, None, option_map, option_and_then, if◌then◌else◌, codes}
+use Rattle.std.specs.Option.{option_map_or}
+use Rattle.std.specs.Str.{bytes_eq}
+use Rattle.clap.specs.Words.{App, Row, Rule, Shape, Text, first_of, new_app, new_rule, with_rule, with_subcommand}
+use Rattle.clap.specs.declared.builder.action.ArgAction.TheVariants.{SetTrue}
+use Rattle.command_words.specs.declared.command.Command.{Command}
+use Rattle.command_words.specs.declared.command.Command.TheVariants.{Run, Check, Demo}
+use Rattle.command_words.specs.Commands.{number_of}
+
+-- the flag `--trace`
+abbrev pub trace_rule : Rule
+trace_rule = record (new_rule (codes "trace")) { long = Some (codes "trace"); action = Some SetTrue }
+
+-- a number, which has to be there
+abbrev pub number_rule : Rule
+number_rule = record (new_rule (codes "number")) { required = true }
+
+abbrev pub run_shape : Shape
+run_shape = (with_rule (new_app (codes "run")) trace_rule).top
+
+abbrev pub check_shape : Shape
+check_shape = (new_app (codes "check")).top
+
+abbrev pub demo_shape : Shape
+demo_shape = (with_rule (new_app (codes "demo")) number_rule).top
+
+-- the words begin with a subcommand, and help is none
+abbrev pub guards_top : Shape
+guards_top = record (new_app (codes "guards")).top {
+  no_binary_name = true;
+  disable_help_flag = true;
+  disable_help_subcommand = true;
+  subcommand_required = true;
+}
+
+abbrev pub guards_app : App
+guards_app = with_subcommand (with_subcommand (with_subcommand (record { top = guards_top; subs = [] }) run_shape) check_shape) demo_shape
+
+-- whether the flag was given
+unfoldable pub has_flag : Text → List Row → Bool
+has_flag id rows = option_map_or (λ text. bytes_eq text (codes "true")) (first_of id rows) false
+
+-- the number that was given
+unfoldable pub given_number : Text → List Row → Option ℕ
+given_number id rows = option_and_then number_of (first_of id rows)
+
+-- the command of a subcommand with its matches
+unfoldable pub command_named : Text → List Row → Option Command
+command_named name rows =
+    if bytes_eq name (codes "run") then Some (Run (has_flag (codes "trace") rows))
+    else (if bytes_eq name (codes "check") then Some Check
+    else option_map Demo (given_number (codes "number") rows))
+
+abbrev pub command_found : Option (Text × List Row) → Option Command
+command_found None = None
+command_found (Some p) = command_named p.0 p.1

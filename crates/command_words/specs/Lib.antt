@@ -1,0 +1,2 @@
+pub mod ClapLine
+pub mod Commands
