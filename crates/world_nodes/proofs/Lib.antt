@@ -1,0 +1,6 @@
+pub mod Damages
+pub mod Numbers
+pub mod Changes
+pub mod Endings
+pub mod Exchanges
+pub mod Contents
