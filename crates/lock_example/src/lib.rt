@@ -5,8 +5,6 @@ mod lent;
 mod score;
 #[cfg(test)]
 mod tests;
-mod workers;
 
 pub use lent::{Concert, Listener, perform};
 pub use score::{Score, Trail};
-pub use workers::{both, work};

@@ -1,6 +1,6 @@
 use Rattle.ctx_lock.specs.Passes.{IsSameView}
 use Rattle.ctx_lock.specs.Handles.{view, IsSamePass}
-use Rattle.lock_example.proofs.workers.work.Given as goal
+use Rattle.lock_workers.proofs.workers.work.Given as goal
 
 abbrev pub invariant-loop : goal.invariant-loop
 invariant-loop g l =

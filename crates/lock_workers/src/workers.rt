@@ -29,7 +29,36 @@ pub fn work<T: Turned, G: Gate, R: Wait>(
     unreachable!()
 }
 
-/// Two workers side by side make all steps that are due. The value comes closed.
+/// Two workers side by side, each with its pass, until all steps that are due are made. The passes come back in the
+/// order in which they were handed in.
+pub fn pair<T: Turned, G: Gate, R: Threads + Wait + Sync>(
+    rt: &R,
+    shared: &Shared<T>,
+    chan: u8,
+    task: Pass<T>,
+    sweep: Pass<T>,
+    gate: &G,
+) -> (Pass<T>, Pass<T>)
+    requires task { IsPassOf shared.now task }
+    requires sweep { IsPassOf shared.now sweep }
+    ensures task { IsWorkedOut T.due task result.0 }
+    ensures sweep { IsWorkedOut T.due sweep result.1 }
+{
+    join(
+        rt,
+        || -> Pass<T>
+            requires { IsPassOf shared.now task }
+            ensures { IsWorkedOut T.due task result }
+        { work(rt, shared, chan, task, gate) },
+        || -> Pass<T>
+            requires { IsPassOf shared.now sweep }
+            ensures { IsWorkedOut T.due sweep result }
+        { work(rt, shared, chan, sweep, gate) },
+    )
+}
+
+/// Two workers side by side make all steps that are due. The value comes closed; for want of memory it comes back as
+/// it was.
 pub fn both<T: Turned, G: Gate, R: Threads + Wait + Sync>(
     rt: &R,
     alloc: Global,
@@ -44,16 +73,6 @@ pub fn both<T: Turned, G: Gate, R: Threads + Wait + Sync>(
     ensures refused { IfErr result (λ r. r.value ≡ value) }
 {
     let (shared, task, sweep) = Shared::begin(rt, alloc, value)?;
-    let (task, sweep) = join(
-        rt,
-        || -> Pass<T>
-            requires { IsPassOf shared task }
-            ensures { IsWorkedOut T.due task result }
-        { work(rt, &shared, chan, task, gate) },
-        || -> Pass<T>
-            requires { IsPassOf shared sweep }
-            ensures { IsWorkedOut T.due sweep result }
-        { work(rt, &shared, chan, sweep, gate) },
-    );
+    let (task, sweep) = pair(rt, &shared, chan, task, sweep, gate);
     Ok(shared.close(task, sweep))
 }

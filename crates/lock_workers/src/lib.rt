@@ -1,0 +1,6 @@
+//! The two workers of a context lock, side by side.
+#![tactic(auto)]
+
+mod workers;
+
+pub use workers::{both, pair, work};

@@ -1,0 +1,2 @@
+pub mod RoundSteps
+pub mod Endings

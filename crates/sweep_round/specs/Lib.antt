@@ -1,0 +1,4 @@
+pub mod Replay
+pub mod Rounds
+pub mod Trails
+pub mod Endings
