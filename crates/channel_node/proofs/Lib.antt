@@ -1,2 +1,3 @@
 pub mod Sensors
 pub mod Closes
+pub mod Works

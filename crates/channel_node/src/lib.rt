@@ -8,5 +8,6 @@ mod modes;
 mod node;
 mod rounds;
 mod votes;
+mod work;
 
 pub use node::Node;

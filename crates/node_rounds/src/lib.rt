@@ -9,6 +9,7 @@ mod rounds;
 mod running;
 mod tree;
 mod votes;
+mod work;
 
 pub use joining::Joining;
 pub use running::Running;

@@ -3,9 +3,10 @@ ghost use Rattle.std.specs.Prelude.{◌≡◌, ◌≤◌, length};
 
 use arrayvec::ArrayVec;
 use control_state::Closed;
-use guards_base::{Bytes, ChanSet};
+use guards_base::ChanSet;
 use icn_frames::Copies;
 use std::marker::Model;
+use sweep_round::Trail;
 
 /// What it keeps of its decision. The inputs past the width are 0.
 #[derive(Drop)]
@@ -39,22 +40,21 @@ impl Decided {
     }
 }
 
-/// The steps of its round in their order, 0 for a write and 1 for a copy, and the copies that they made.
+/// The trail of its round, and the copies that the round made.
 #[derive(Drop)]
 pub struct Worked {
-    pub cycle: u32,
-    pub steps: Bytes,
+    pub history: Trail,
     pub copies: Copies,
 }
 
 impl Model for Worked {
-    ghost use Rattle.std.specs.Prelude.{map};
-    ghost use Rattle.guards_model.specs.Records.{actor_of_step};
     ghost use Rattle.guards_nodes.specs.NodeStates.{WorkedValue};
 
     ghost Value = { WorkedValue };
 
-    ghost view = { λ w. record { cycle = w.cycle; steps = map actor_of_step w.steps.items; copies = w.copies.items } };
+    ghost use Rattle.sweep_round.specs.Trails.{trail_cycle, trail_steps};
+
+    ghost view = { λ w. record { cycle = trail_cycle w.history; steps = trail_steps w.history; copies = w.copies.items } };
 }
 
 /// What closing the cycle answered.
