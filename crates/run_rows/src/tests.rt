@@ -87,6 +87,57 @@ name = \"products\"
 writes = [{ block = 1, w0 = \"b0.0 * b0.1\", w1 = \"b0.2 / (b0.0 + 1)\", w2 = \"b0.3 % 7\", w3 = \"-b1.0\" }]
 ";
 
+// Blocks are copied three a cycle, and the last two at once.
+const COUNT: &str = "outputs = [\"b0.0\"]
+table = [[\"count\"], []]
+sensors = [[[5], [5], [5], [5], [5]]]
+[core]
+channels = 5
+cycles = 12
+blocks = 8
+width = 1
+threshold = 6553600
+sweep = 3
+final = 2
+[[task]]
+name = \"count\"
+writes = [{ block = 0, w0 = \"b0.0+ 1\" }]
+";
+
+const CHECKED: &str = "check channels 4 cycles 2 blocks 1
+rounds 2
+writes 1
+join 1
+row 0 task sum b0.0 = (b0.0 + in0)
+";
+
+const CHECKED_COUNT: &str = "check channels 5 cycles 12 blocks 8
+rounds 2
+writes 1
+join 3
+row 0 task count b0.0 = (b0.0 + 1)
+";
+
+const CHECKED_SEVEN: &str = "check channels 7 cycles 10 blocks 4
+rounds 3
+writes 2
+join -
+row 0 task sums b0.0 = (b0.0 + in0)
+row 0 task sums b0.1 = (b0.1 + in1)
+row 0 task sums b0.2 = (b0.2 - in2)
+row 0 task sums b0.3 = (b0.3 + (in3 * cycle))
+row 1 task sums b0.0 = (b0.0 + in0)
+row 1 task sums b0.1 = (b0.1 + in1)
+row 1 task sums b0.2 = (b0.2 - in2)
+row 1 task sums b0.3 = (b0.3 + (in3 * cycle))
+row 1 task products b1.0 = (b0.0 * b0.1)
+row 1 task products b1.1 = (b0.2 / (b0.0 + 1))
+row 1 task products b1.2 = (b0.3 % 7)
+row 1 task products b1.3 = -b1.0
+";
+
+const USAGE: &str = "usage: guards run [--trace] | check | demo N\n";
+
 const HEAD: &str = "guards channels 4 cycles 2\n";
 
 const FIRST: &str = "cycle 0 active 0,1,2,3 transfer -
@@ -105,17 +156,20 @@ ch 3 in 5 vote 10 judged - alpha 0,0,0,0
 end removed - joined - remaining -
 ";
 
-// The exit status for a word and some bytes, and the sink. Source and sink give and take `step` bytes a call.
+// The exit status for words, which are parted by spaces, and some bytes, and the sink. Source and sink give and take
+// `step` bytes a call.
 fn answered(
     alloc: Global,
-    word: &str,
+    line: &str,
     bytes: &[u8],
     step: usize,
     failed_reads: &[u32],
     failed_writes: &[u32],
 ) -> Result<(u8, MemSink), AllocError> {
     let mut words = Words::new(alloc);
-    words.push(Text::from_str(alloc, word)?)?;
+    for word in line.split_whitespace() {
+        words.push(Text::from_str(alloc, word)?)?;
+    }
     let bytes = Bytes::from_slice(alloc, bytes)?;
     let step = step.max(1);
     let mut src = MemSource::new(bytes, step, Numbers::from_slice(alloc, failed_reads)?);
@@ -141,15 +195,7 @@ fn each_status_has_its_text(rt: HostRuntime) -> Result<(), Fail> {
         ("run", middle, 100_000, none, none, 0, whole),
         ("run", "", 100_000, none, none, 3, "mission: missing core\n"),
         ("run", "[core", 7, none, none, 3, "mission: not-toml -\n"),
-        (
-            "fly",
-            MISSION,
-            100_000,
-            none,
-            none,
-            2,
-            "usage: guards run\n",
-        ),
+        ("fly", MISSION, 100_000, none, none, 2, USAGE),
         (
             "run",
             MISSION,
@@ -362,6 +408,51 @@ fn what_cannot_run_is_refused(rt: HostRuntime) -> Result<(), Fail> {
         let (code_of, out) = answered(alloc, "run", mission.as_bytes(), 100_000, &[], &[])?;
         assert_eq!(rt; code_of, 3);
         assert_eq!(rt; out.bytes(), line.as_bytes());
+    }
+    Ok(())
+}
+
+#[test]
+fn missions_are_checked(rt: HostRuntime) -> Result<(), Fail> {
+    let alloc = rt.alloc();
+    let faulty = format!(in alloc;
+        "{MISSION}[[fault]]\nkind = \"restart\"\ncycle = 0\nchannel = 1\n"
+    )?;
+    for (mission, code, text) in [
+        (MISSION, 0, CHECKED),
+        (faulty.as_str(), 0, CHECKED),
+        (COUNT, 0, CHECKED_COUNT),
+        (SEVEN, 0, CHECKED_SEVEN),
+        ("", 3, "mission: missing core\n"),
+    ] {
+        let (code_of, out) = answered(alloc, "check", mission.as_bytes(), 7, &[], &[])?;
+        assert_eq!(rt; code_of, code);
+        assert_eq!(rt; out.bytes(), text.as_bytes());
+    }
+    Ok(())
+}
+
+#[test]
+fn other_words_are_no_command(rt: HostRuntime) -> Result<(), Fail> {
+    let alloc = rt.alloc();
+    for line in [
+        "",
+        "fly",
+        "help",
+        "--help",
+        "-h",
+        "demo",
+        "run --",
+        "run --trace=true",
+        "run --trace --trace",
+        "check --trace",
+        "demo -1",
+        "demo 18446744073709551616",
+        "demo -- 1",
+    ] {
+        let (code_of, out) = answered(alloc, line, MISSION.as_bytes(), 100_000, &[], &[])?;
+        assert_eq!(rt; code_of, 2, "{line}");
+        assert_eq!(rt; out.bytes(), USAGE.as_bytes());
     }
     Ok(())
 }

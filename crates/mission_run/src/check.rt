@@ -1,0 +1,68 @@
+//! Writes the text of the command `check`.
+ghost use Rattle.std.specs.Prelude.{◌≡◌, ◌<◌, length};
+ghost use Rattle.task_table.specs.Tables.{row_at};
+ghost use Rattle.check_text.specs.Check.{check_of, head_text, row_text, texts_from};
+ghost use Rattle.ideal_run.specs.Writes.{Writes, sink_view};
+
+use check_text::{head_text, row_text};
+use guards_io::Sink;
+use ideal_run::{WriteStop, write_all};
+use mission_type::Mission;
+use std::alloc::Global;
+use task_table::Table;
+
+/// Writes one part. A part without bytes is not given.
+fn put<K: Sink>(out: &mut K, part: &str) -> Result<(), WriteStop>
+    ensures { Writes (sink_view (K.written out.old) (K.faults out.old))
+        (sink_view (K.written out.new) (K.faults out.new)) part.now result }
+{
+    match write_all(out, part.as_bytes()) {
+        Ok(()) => Ok(()),
+        Err(_) => Err(WriteStop::Failed),
+    }
+}
+
+/// Writes the first four lines.
+#[tactic(auto, using(ideal_run::proofs::WritesLemmas::nothing_written))]
+fn put_head<K: Sink>(alloc: Global, mission: &Mission, out: &mut K) -> Result<(), WriteStop>
+    ensures { Writes (sink_view (K.written out.old) (K.faults out.old))
+        (sink_view (K.written out.new) (K.faults out.new)) (head_text mission.now) result }
+{
+    let Ok(text) = head_text(alloc, mission) else {
+        return Err(WriteStop::Memory);
+    };
+    put(out, text.as_str())
+}
+
+/// Writes the lines of a row.
+#[tactic(auto, using(ideal_run::proofs::WritesLemmas::nothing_written))]
+fn put_row<K: Sink>(alloc: Global, table: &Table, row: u16, out: &mut K) -> Result<(), WriteStop>
+    requires { row < length table.now.rows }
+    ensures { Writes (sink_view (K.written out.old) (K.faults out.old))
+        (sink_view (K.written out.new) (K.faults out.new)) (row_text row (row_at table.now.rows row)) result }
+{
+    let Ok(text) = row_text(alloc, table, row) else {
+        return Err(WriteStop::Memory);
+    };
+    put(out, text.as_str())
+}
+
+/// Writes the lines of all rows.
+fn put_rows<K: Sink>(alloc: Global, table: &Table, out: &mut K) -> Result<(), WriteStop>
+    ensures { Writes (sink_view (K.written out.old) (K.faults out.old))
+        (sink_view (K.written out.new) (K.faults out.new)) (texts_from row_text 0 table.now.rows) result }
+{
+    for row in 0..table.rows() {
+        put_row(alloc, table, row, out)?;
+    }
+    Ok(())
+}
+
+/// Writes the text of `check`, part by part: the first four lines, and the lines of each row.
+pub fn write_check<K: Sink>(alloc: Global, mission: &Mission, out: &mut K) -> Result<(), WriteStop>
+    ensures { Writes (sink_view (K.written out.old) (K.faults out.old))
+        (sink_view (K.written out.new) (K.faults out.new)) (check_of mission.now) result }
+{
+    put_head(alloc, mission, out)?;
+    put_rows(alloc, mission.table(), out)
+}
