@@ -1,0 +1,5 @@
+//! One node driven by hand, as tests of the crate that it stands on.
+#![tactic(auto)]
+
+#[cfg(test)]
+mod tests;
