@@ -1,0 +1,7 @@
+//! The world: all channels' nodes, the ledger and the switches, which pass a mission cycle by cycle.
+#![tactic(auto)]
+
+mod slots;
+mod world;
+
+pub use world::{Halt, World};
