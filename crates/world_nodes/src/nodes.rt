@@ -54,4 +54,11 @@ impl Nodes {
     {
         &self.list[c.index() as usize]
     }
+
+    /// Lends all nodes, in their order.
+    pub fn as_slice(&self) -> &[Node]
+        ensures { result.now ≡ self.now }
+    {
+        self.list.as_slice()
+    }
 }
