@@ -1,0 +1,4 @@
+pub mod Keeping
+pub mod Following
+pub mod Working
+pub mod Running

@@ -1,0 +1,7 @@
+//! Laws by which the world's cycle is put together of its parts: what the entries of later slots leave as it was, and what a
+//! cycle is whose slots are all done. Each is the contract of a function without a body.
+#![tactic(auto)]
+
+mod staying;
+
+pub use staying::{channels_run, decisions_stay, full_stays, later_slots_follow, steps_come_later};
