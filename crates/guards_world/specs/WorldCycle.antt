@@ -12,6 +12,7 @@ use Rattle.guards_model.specs.BusRules.{RuleValue}
 use Rattle.guards_model.specs.Network.{EntryValue, Log}
 use Rattle.guards_model.specs.Rounds.{IsFull, Steps, steps_of}
 use Rattle.guards_model.specs.Texts.{RecordValue, StopValue}
+use Rattle.guards_model.specs.Records.{shown}
 use Rattle.guards_runs.specs.Cycles.{Cycle, Past, next_cycle, cycles_before, is_whole}
 use Rattle.guards_runs.specs.Disturbed.{stop_in, stop_of}
 use Rattle.guards_runs.specs.Due.{IsDue, IsMadeBy, AreMadeBy, cycle_carries, carries_through, origin_of}
@@ -66,8 +67,9 @@ pub record Finishes (old : WorldValue) (L now : Log) (part : RecordValue) (new :
   -- the log grew by the due entries, in order
   pub due : AreMadeBy old.mission steps past e now
   pub full : AreFull old.mission past e steps
-  -- the answer is the record of the cycle
-  pub record_is : part ≡ cycle_record old.mission steps old.done e
+  -- the answer is the record of the cycle, in the places that the mission has
+  pub record_is : shown old.mission.rules.channels old.mission.width (length old.mission.outputs) part
+      ≡ cycle_record old.mission steps old.done e
   -- the longer list stands for the new world
   pub mission : new.mission ≡ old.mission
   pub done : new.done ≡ suc old.done

@@ -1,2 +1,3 @@
 pub mod Halts
 pub mod Codes
+pub mod Stages
