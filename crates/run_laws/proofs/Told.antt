@@ -1,0 +1,123 @@
+-- The text of a run is that of its cycles, and the last line.
+use Rattle.std.proofs.Common.{◌≡◌, ◌<◌, ◌+◌, ◌-◌, ℕ, zero, suc, Bool, true, false, List, [], ◌∷◌, ◌++◌, length, Option, Some, None, refl, sym, ap, subst, ◌∙◌, arith}
+use Rattle.std.specs.Prelude.{is_some, if◌then◌else◌}
+use Rattle.std.proofs.lemmas.List.{append-nil}
+use Rattle.std.proofs.lemmas.Grind.{flat_map-append}
+use Rattle.guards_model.specs.Missions.{MissionValue}
+use Rattle.guards_model.specs.Network.{Log}
+use Rattle.guards_model.specs.Rounds.{Steps, Histories}
+use Rattle.guards_model.specs.Texts.{TextValue, Part, StopValue, text_of, part_text, cycle_part, head_line, last_line, done_line, stop_line}
+use Rattle.guards_runs.specs.Cycles.{Past, cycles_before, cycle_at, this_cycle}
+use Rattle.guards_runs.specs.Disturbed.{stop_in, stop_of, first_of_two}
+use Rattle.guards_runs.specs.Report.{cycle_record, cycle_parts, parts_of, told_cycles, told_histories, earlier_steps, latest_steps, report, report_parts, traced, traced_parts}
+use Rattle.guards_laws.proofs.LogGrows.{length-cycles_before}
+use Rattle.run_laws.specs.Runs.{parts_so_far, run_text, with_unfinished}
+
+-- ---- parts
+
+-- without the trace lines the histories are not told
+untraced : (M : MissionValue) (hs ks : Histories) (past : Past) → cycle_parts false M hs past ≡ cycle_parts false M ks past
+untraced M hs ks [] = refl
+untraced M hs ks (e ∷ past) =
+    ap (λ (parts : List Part). parts ++ cycle_part false (cycle_record M (latest_steps ks) (this_cycle past) e) ∷ []) (untraced M (earlier_steps hs) (earlier_steps ks) past)
+
+-- the parts with one cycle more
+pub parts_more : (trace : Bool) (M : MissionValue) (histories : Histories) (steps : Steps) (L more : Log) (n : ℕ) → cycles_before M more n ≡ cycles_before M L n →
+    parts_so_far trace M (steps ∷ histories) (cycles_before M more (suc n))
+    ≡ parts_so_far trace M histories (cycles_before M L n) ++ cycle_part trace (cycle_record M steps n (cycle_at M more n)) ∷ []
+parts_more trace M histories steps L more n same =
+    ap (λ (c : ℕ). parts_so_far trace M histories (cycles_before M more n) ++ cycle_part trace (cycle_record M steps c (cycle_at M more n)) ∷ []) (length-cycles_before M more n)
+    ∙ ap (λ (past : Past). parts_so_far trace M histories past ++ cycle_part trace (cycle_record M steps n (cycle_at M more n)) ∷ []) same
+
+-- a part more is a text more
+pub text_more : (parts : List Part) (part : Part) → text_of (parts ++ part ∷ []) ≡ text_of parts ++ part_text part
+text_more parts part = flat_map-append part_text parts (part ∷ []) ∙ ap (λ text. text_of parts ++ text) (append-nil (part_text part))
+
+text_and_line : (parts : List Part) (line : TextValue) → text_of (parts ++ (line ∷ []) ∷ []) ≡ text_of parts ++ line
+text_and_line parts line = text_more parts (line ∷ []) ∙ ap (λ text. text_of parts ++ text) (append-nil line)
+
+-- ---- what is told
+
+told_whole : (past : Past) → stop_of past ≡ None → told_cycles past ≡ past
+told_whole [] h = refl
+told_whole (e ∷ past) h = ap (λ o. if is_some o then told_cycles past else e ∷ past) h
+
+histories_whole : (past : Past) (hs : Histories) → stop_of past ≡ None → told_histories past hs ≡ hs
+histories_whole [] hs h = refl
+histories_whole (e ∷ past) hs h = ap (λ o. if is_some o then told_histories past (earlier_steps hs) else hs) h
+
+module _ (M : MissionValue) (L : Log) (n : ℕ) (stop : StopValue) (unstopped : stop_of (cycles_before M L n) ≡ None) (stops : stop_in n (cycle_at M L n) ≡ Some stop) where
+  -- the first stop stays the first
+  stop_stays : (k m : ℕ) → m ≡ n + suc k → stop_of (cycles_before M L m) ≡ Some stop
+  stop_stays zero m h =
+      let e : m ≡ suc n = omega (arith, h) in
+      rw e
+      (ap (λ o. first_of_two o (stop_in (length (cycles_before M L n)) (cycle_at M L n))) unstopped
+      ∙ ap (λ c. stop_in c (cycle_at M L n)) (length-cycles_before M L n) ∙ stops)
+  stop_stays (suc k) m h =
+      let e : m ≡ suc (n + suc k) = omega (arith, h) in
+      rw e
+      (ap (λ o. first_of_two o (stop_in (length (cycles_before M L (n + suc k))) (cycle_at M L (n + suc k)))) (stop_stays k (n + suc k) refl))
+
+  -- and the cycles before it are told, with their histories
+  told : (k m : ℕ) → m ≡ n + suc k → told_cycles (cycles_before M L m) ≡ cycles_before M L n
+  told zero m h =
+      let e : m ≡ suc n = omega (arith, h) in
+      let stopped : stop_of (cycles_before M L (suc n)) ≡ Some stop = stop_stays zero (suc n) (omega arith) in
+      rw e (ap (λ o. if is_some o then told_cycles (cycles_before M L n) else cycles_before M L (suc n)) stopped ∙ told_whole (cycles_before M L n) unstopped)
+  told (suc k) m h =
+      let e : m ≡ suc (n + suc k) = omega (arith, h) in
+      let stopped : stop_of (cycles_before M L (suc (n + suc k))) ≡ Some stop = stop_stays (suc k) (suc (n + suc k)) (omega arith) in
+      rw e (ap (λ o. if is_some o then told_cycles (cycles_before M L (n + suc k)) else cycles_before M L (suc (n + suc k))) stopped ∙ told k (n + suc k) refl)
+
+  beside : (hs : Histories) (k m : ℕ) → m ≡ n + suc k → told_histories (cycles_before M L m) (with_unfinished (suc k) hs) ≡ hs
+  beside hs zero m h =
+      let e : m ≡ suc n = omega (arith, h) in
+      let stopped : stop_of (cycles_before M L (suc n)) ≡ Some stop = stop_stays zero (suc n) (omega arith) in
+      rw e (ap (λ o. if is_some o then told_histories (cycles_before M L n) hs else with_unfinished 1 hs) stopped ∙ histories_whole (cycles_before M L n) hs unstopped)
+  beside hs (suc k) m h =
+      let e : m ≡ suc (n + suc k) = omega (arith, h) in
+      let stopped : stop_of (cycles_before M L (suc (n + suc k))) ≡ Some stop = stop_stays (suc k) (suc (n + suc k)) (omega arith) in
+      rw e (ap (λ o. if is_some o then told_histories (cycles_before M L (n + suc k)) (with_unfinished (suc k) hs) else with_unfinished (suc (suc k)) hs) stopped ∙ beside hs k (n + suc k) refl)
+
+-- ---- whole texts
+
+-- the parts of a run by what is told of it
+parts_are : (trace : Bool) (M : MissionValue) (L : Log) (histories : Histories) → (hs : Histories) → (past : Past) (stop : Option StopValue) →
+    told_cycles (cycles_before M L M.cycles) ≡ past → told_histories (cycles_before M L M.cycles) histories ≡ hs → stop_of (cycles_before M L M.cycles) ≡ stop →
+    run_text trace M L histories ≡ text_of (parts_of trace M hs past stop)
+unfolding report report_parts traced traced_parts
+parts_are true M L histories hs past stop cycles_are hs_are stop_is =
+    let all = cycles_before M L M.cycles in
+    ap (λ (x : Histories). text_of (parts_of true M x (told_cycles all) (stop_of all))) hs_are
+    ∙ ap (λ (x : Past). text_of (parts_of true M hs x (stop_of all))) cycles_are
+    ∙ ap (λ (x : Option StopValue). text_of (parts_of true M hs past x)) stop_is
+parts_are false M L histories hs past stop cycles_are hs_are stop_is =
+    let all = cycles_before M L M.cycles in
+    let line : Part = last_line M.cycles stop ∷ [] in
+    let first : Part = head_line M.rules.channels M.cycles ∷ [] in
+    ap (λ (x : Past). text_of (parts_of false M (told_histories all []) x (stop_of all))) cycles_are
+    ∙ ap (λ (x : Option StopValue). text_of (parts_of false M (told_histories all []) past x)) stop_is
+    ∙ ap (λ (parts : List Part). text_of (first ∷ (parts ++ line ∷ []))) (untraced M (told_histories all []) hs past)
+
+-- a run that stopped nowhere
+pub whole_text : (trace : Bool) (M : MissionValue) (L : Log) (histories : Histories) → stop_of (cycles_before M L M.cycles) ≡ None →
+    run_text trace M L histories ≡ text_of (parts_so_far trace M histories (cycles_before M L M.cycles)) ++ done_line M.cycles
+whole_text trace M L histories unstopped =
+    let all = cycles_before M L M.cycles in
+    parts_are trace M L histories histories all None (told_whole all unstopped) (histories_whole all histories unstopped) unstopped
+    ∙ text_and_line (parts_so_far trace M histories all) (done_line M.cycles)
+
+-- a run that stopped
+pub stopped_text : (trace : Bool) (M : MissionValue) (L : Log) (histories : Histories) (n : ℕ) (stop : StopValue) → n < M.cycles →
+    stop_of (cycles_before M L n) ≡ None → stop_in n (cycle_at M L n) ≡ Some stop →
+    run_text trace M L (with_unfinished (M.cycles - n) histories) ≡ text_of (parts_so_far trace M histories (cycles_before M L n)) ++ stop_line stop
+stopped_text trace M L histories n stop below unstopped stops =
+    let k : ℕ = M.cycles - n - 1 in
+    let count : M.cycles - n ≡ suc k = omega (arith, below) in
+    let cycles : M.cycles ≡ n + suc k = omega (arith, below) in
+    parts_are trace M L (with_unfinished (M.cycles - n) histories) histories (cycles_before M L n) (Some stop)
+    (told M L n stop unstopped stops k M.cycles cycles)
+    (subst (λ j. told_histories (cycles_before M L M.cycles) (with_unfinished j histories) ≡ histories) (sym count) (beside M L n stop unstopped stops histories k M.cycles cycles))
+    (stop_stays M L n stop unstopped stops k M.cycles cycles)
+    ∙ text_and_line (parts_so_far trace M histories (cycles_before M L n)) (stop_line stop)
