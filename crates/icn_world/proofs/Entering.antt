@@ -12,10 +12,10 @@ use Rattle.guards_model.specs.Modes.{ModeValue, up, down, is_up}
 use Rattle.guards_model.specs.Network.{Log}
 use Rattle.guards_model.specs.Rounds.{Steps}
 use Rattle.guards_model.specs.Ledgers.{LedgerValue, first_ledger, ledger_at_start, ledger_in_slot, turned_joining, turned_down}
-use Rattle.guards_model.proofs.BoolTests.{clear, differ}
+use Rattle.guards_model.proofs.BoolTests.{clear}
 use Rattle.guards_model.proofs.NumbersBelow.{below_there}
 use Rattle.dirty_tags.proofs.MarkedLists.{below_of}
-use Rattle.guards_runs.specs.Cycles.{Past, Cycle, this_cycle, cycles_before, cycle_at}
+use Rattle.guards_runs.specs.Cycles.{Past, Cycle, cycles_before, cycle_at}
 use Rattle.guards_laws.proofs.LogGrows.{length-cycles_before}
 use Rattle.guards_nodes.specs.NodeStates.{NodeValue}
 use Rattle.guards_world.specs.NodeFacts.{ledger_at}
@@ -32,7 +32,7 @@ use Rattle.world_steps.proofs.SlotNodes.{all_fell, all_heard}
 
 -- ---- the start
 
-below_by : (n q : ℕ) (b : Bool) → nat_lt q n ≡ b → has (numbers_below n) q ≡ b
+pub below_by : (n q : ℕ) (b : Bool) → nat_lt q n ≡ b → has (numbers_below n) q ≡ b
 below_by n q true h = below_there n q (ltb-true q n h)
 below_by n q false h = clear (has (numbers_below n) q) (λ there. sym (lt-ltb q n (below_of n q there)) ∙ h)
 

@@ -14,7 +14,7 @@ use Rattle.guards_model.proofs.BoolTests.{both}
 use Rattle.guards_model.proofs.AscendingLists.{set_parts}
 use Rattle.guards_laws.proofs.CycleParts.{active-is}
 use Rattle.guards_laws.proofs.WithinChannels.{active_is_set}
-use Rattle.guards_runs.specs.Cycles.{cycles_before, cycle_at, mode_in, active_set}
+use Rattle.guards_runs.specs.Cycles.{cycles_before, cycle_at, mode_in}
 use Rattle.guards_nodes.specs.NodeStates.{DecidedValue, NodeValue, StateValue, running, fallen, resting, returning, RunningValue, JoinerValue}
 use Rattle.guards_world.specs.NodeFacts.{state_of_mode, running_in, joiner_in, state_in}
 use Rattle.guards_world.specs.Worlds.{WorldValue}
@@ -36,7 +36,7 @@ all_nodes M P a mission here = all_of P a here (channels_of M) (set_parts (chann
 
 -- ---- the decision
 
-abbrev decided_in : StateValue → Option DecidedValue
+abbrev pub decided_in : StateValue → Option DecidedValue
 decided_in (running r) = r.progress.decided
 decided_in fallen = None
 decided_in resting = None

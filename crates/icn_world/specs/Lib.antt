@@ -1,3 +1,4 @@
 pub mod Halts
 pub mod Codes
 pub mod Stages
+pub mod Kept

@@ -9,6 +9,7 @@ ghost use Rattle.guards_world.specs.Worlds.{StandsForWorld};
 ghost use Rattle.guards_world.specs.InCycle.{InCycle};
 ghost use Rattle.world_nodes.specs.NodeLists.{AreInRange};
 ghost use Rattle.world_steps.specs.Arrivals.{AreArrivals, HaveWorked};
+ghost use Rattle.icn_world.specs.Kept.{IsKept};
 
 use crate::world::World;
 use guards_base::ChanSet;
@@ -22,7 +23,8 @@ impl World {
         requires stands { (L : Log) × StandsForWorld self.old L }
         requires below { self.old.done < self.old.mission.cycles }
         requires unspent { self.old.spent ≡ None }
-        ensures { (L : Log) (steps : Steps) → StandsForWorld self.old L →
+        ensures kept { IsKept self.old self.new }
+        ensures state { (L : Log) (steps : Steps) → StandsForWorld self.old L →
             OnOk result (InCycle self.old.mission L [] steps Request 0 0 self.new) }
     {
         let joining = self.ledger.start_cycle(self.mission.script(), self.done);
@@ -36,7 +38,8 @@ impl World {
 
     // Enters a slot: its crashes.
     pub(crate) fn enter(&mut self, slot: Slot)
-        ensures { (L now : Log) (steps : Steps) (before : SlotValue) (carried handed : ℕ) → up_to before slot ≡ true → on_bus slot ≡ true →
+        ensures kept { IsKept self.old self.new }
+        ensures state { (L now : Log) (steps : Steps) (before : SlotValue) (carried handed : ℕ) → up_to before slot ≡ true → on_bus slot ≡ true →
             InCycle self.old.mission L now steps before carried handed self.old →
             InCycle self.old.mission L now steps slot carried handed self.new }
     {
@@ -48,7 +51,8 @@ impl World {
 
     // Hands over the request slot.
     pub(crate) fn hear<A: Arrived>(&mut self, arrived: &A)
-        ensures { (L now : Log) (steps : Steps) → InCycle self.old.mission L now steps Request 1 0 self.old →
+        ensures kept { IsKept self.old self.new }
+        ensures state { (L now : Log) (steps : Steps) → InCycle self.old.mission L now steps Request 1 0 self.old →
             AreArrivals self.old.mission (L ++ now) self.old.done Request (A.got arrived.now) →
             InCycle self.old.mission L now steps Request 1 1 self.new }
     {
@@ -62,7 +66,8 @@ impl World {
         arrived: &A,
     ) -> Result<Lines, AllocError>
         requires { (L : Log) × (now : Log) × (steps : Steps) × InCycle self.old.mission L now steps Vote 6 5 self.old }
-        ensures { (L now : Log) (steps : Steps) → InCycle self.old.mission L now steps Vote 6 5 self.old →
+        ensures kept { IsKept self.old self.new }
+        ensures state { (L now : Log) (steps : Steps) → InCycle self.old.mission L now steps Vote 6 5 self.old →
             AreArrivals self.old.mission (L ++ now) self.old.done Vote (A.got arrived.now) →
             HaveWorked self.old.mission (L ++ now) self.old.done →
             OnOk result (InCycle self.old.mission L now steps Vote 6 6 self.new) }
@@ -78,7 +83,8 @@ impl World {
         arrived: &A,
     ) -> Result<ChanSet, AllocError>
         requires { AreInRange (A.got arrived.now) }
-        ensures { (L now : Log) (steps : Steps) → InCycle self.old.mission L now steps Final 8 7 self.old →
+        ensures kept { IsKept self.old self.new }
+        ensures state { (L now : Log) (steps : Steps) → InCycle self.old.mission L now steps Final 8 7 self.old →
             AreArrivals self.old.mission (L ++ now) self.old.done Final (A.got arrived.now) →
             OnOk result (InCycle self.old.mission L now steps Final 8 8 self.new) }
     {
