@@ -1,5 +1,5 @@
 -- What contracts see of the tree of a member.
-use Rattle.std.specs.Prelude.{◌≡◌, ◌≤◌, ℕ, ◌+◌, [], ◌∷◌, length, take, Option, None, if◌then◌else◌}
+use Rattle.std.specs.Prelude.{◌≡◌, ◌≤◌, ℕ, ◌+◌, [], ◌∷◌, ◌==◌, ◌&&◌, nat_le, length, take, Bool, Option, None, if◌then◌else◌}
 use Rattle.guards_model.specs.Channels.{Channel, ChannelSet, has, tolerated_faults}
 use Rattle.guards_model.specs.Frames.{SourceValue}
 use Rattle.guards_model.specs.OralMessages.{resolved_value}
@@ -22,12 +22,17 @@ seen_tree t =
 abbrev pub IsTreeFor : Received → ExchangeTreeValue → Type 0
 IsTreeFor received tree = tree ≡ tree_for received tree
 
--- the members and the width of a tree, beside it
-pub record IsOfTree (active : ChannelSet) (width : ℕ) (t : TreeValue) : Type 0 where
+-- the members, the member itself and the width of a tree, beside it
+pub record IsOfTree (active : ChannelSet) (me : Channel) (width : ℕ) (t : TreeValue) : Type 0 where
   pub members : active ≡ t.members
+  pub me_is : me ≡ t.me
   pub width_is : width ≡ t.width
   pub few : length active ≤ 7
   pub narrow : width ≤ 4
+
+-- the places of a tree suffice for a cycle of the same member with the same width and no member more
+abbrev pub has_places : Channel → ChannelSet → ℕ → ExchangeTreeValue → Bool
+has_places me active width t = t.me == me && t.width == width && nat_le (length active) (length t.active)
 
 -- the word of a channel, where it is a member
 abbrev pub word_from : Received → ExchangeTreeValue → Channel → Option SourceValue

@@ -1,5 +1,5 @@
 //! The exchange of a cycle, and the decision.
-ghost use Rattle.std.specs.Prelude.{◌≡◌, ◌≢◌, ◌≤◌, ◌+◌, true, [], length, take, IsTrue, Some, OnOk, OnErr};
+ghost use Rattle.std.specs.Prelude.{◌≡◌, ◌≢◌, ◌≤◌, ◌+◌, true, [], length, take, IsTrue, IsOk, Some, OnOk, OnErr};
 ghost use Rattle.std.specs.Option.{option_copied};
 ghost use Rattle.guards_base.specs.Padding.{IsPadded};
 ghost use Rattle.guards_model.specs.Channels.{has, tolerated_faults};
@@ -7,7 +7,7 @@ ghost use Rattle.guards_model.specs.Missions.{is_rules};
 ghost use Rattle.guards_nodes.specs.NodeStates.{ExchangeTreeValue};
 ghost use Rattle.guards_nodes.specs.NodeSteps.{Received, TreeStandsFor, agreed_from, after_source, after_exchange, after_decision, IsDecision};
 ghost use Rattle.oral_messages.specs.Received.{IsInRange, items_in};
-ghost use Rattle.node_rounds.specs.Trees.{IsTreeFor};
+ghost use Rattle.node_rounds.specs.Trees.{IsTreeFor, has_places};
 
 use crate::parts::Decided;
 use crate::running::Running;
@@ -18,7 +18,8 @@ use icn_frames::Exchange;
 use std::alloc::{AllocError, Global};
 
 impl Running {
-    /// Forms the source word of these sensor words, of which those past the width are 0, and begins the exchange.
+    /// Forms the source word of these sensor words, of which those past the width are 0, and begins the exchange. It takes
+    /// no memory where the places of the last exchange suffice.
     pub fn source(
         &mut self,
         alloc: Global,
@@ -31,6 +32,7 @@ impl Running {
         requires padded { IsPadded 4 width sensors }
         ensures state { OnOk result (self.new ≡ after_source me width (take width sensors) self.old) }
         ensures refused { OnErr result (self.new ≡ self.old) }
+        ensures kept { (t : ExchangeTreeValue) → self.old.tree ≡ Some t → has_places me self.old.control.active width t ≡ true → IsOk result }
     {
         let own = SourceWord {
             width,
@@ -38,8 +40,7 @@ impl Running {
             accuse: self.accused,
             heard: self.heard,
         };
-        let tree = RoundTree::begin(alloc, me, self.control.active, width, own)?;
-        self.tree = Some(tree);
+        RoundTree::renew(&mut self.tree, alloc, me, self.control.active, width, own)?;
         self.decided = None;
         self.worked = None;
         self.closed = None;

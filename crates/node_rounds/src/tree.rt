@@ -1,13 +1,14 @@
-//! The tree of a member, with the members and the width that it was begun for.
-ghost use Rattle.std.specs.Prelude.{◌≡◌, ◌≢◌, ◌<◌, ◌≤◌, ◌+◌, ◌-◌, ◌++◌, pos, false, [], length, replicate, None, IsTrue, IfOk, option_map};
+//! The tree of a member, with the members, the member itself and the width that it was begun for.
+ghost use Rattle.std.specs.Prelude.{◌≡◌, ◌≢◌, ◌<◌, ◌≤◌, ◌+◌, ◌-◌, ◌++◌, ◌==◌, ◌&&◌, pos, true, false, [], length, replicate, Some, None, IsTrue, IsOk, IfOk, OnOk, OnErr, option_map, nat_le};
 ghost use Rattle.std.specs.Option.{option_copied};
 ghost use Rattle.guards_model.specs.Channels.{Channel, has, place_or, tolerated_faults};
 ghost use Rattle.guards_model.specs.Frames.{exchange_body};
 ghost use Rattle.guards_model.specs.Voting.{inputs_of};
 ghost use Rattle.guards_nodes.specs.NodeFrames.{exchange_in};
+ghost use Rattle.guards_nodes.specs.NodeStates.{ExchangeTreeValue};
 ghost use Rattle.guards_nodes.specs.NodeSteps.{Received, nothing_received, with_items, tree_of, tree_for, agreed_from};
 ghost use Rattle.oral_messages.specs.Received.{IsInRange, items_in};
-ghost use Rattle.node_rounds.specs.Trees.{IsTreeFor, word_from};
+ghost use Rattle.node_rounds.specs.Trees.{IsTreeFor, word_from, has_places};
 
 use guards_base::{Chan, ChanSet, SourceWord};
 use icn_frames::Exchange;
@@ -20,6 +21,7 @@ use voter::consolidate;
 #[derive(Drop)]
 pub struct RoundTree {
     active: ChanSet,
+    me: Chan,
     width: u8,
     tree: Tree,
 }
@@ -33,7 +35,7 @@ impl Model for RoundTree {
 
     ghost view = { λ t. seen_tree t.tree };
 
-    ghost invariant = { λ t. IsOfTree t.active t.width t.tree };
+    ghost invariant = { λ t. IsOfTree t.active t.me t.width t.tree };
 }
 
 /// The channel with a number.
@@ -61,9 +63,57 @@ impl RoundTree {
         let _ = active.flags();
         Ok(RoundTree {
             active,
+            me,
             width,
             tree: Tree::begin(alloc, me, active, width, own)?,
         })
+    }
+
+    // Whether its places suffice for a cycle of this member.
+    fn has_places(&self, me: Chan, active: ChanSet, width: u8) -> bool
+        ensures { result ≡ has_places me active width self.now }
+    {
+        self.me == me && self.width == width && active.count() <= self.active.count()
+    }
+
+    // The tree of a later cycle in the same places: the own word alone.
+    fn restart(&mut self, active: ChanSet, own: SourceWord)
+        requires mine { IsTrue (has active self.old.me) }
+        requires some { 3 ≤ length active }
+        requires room { length active ≤ length self.old.active }
+        ensures { self.new ≡ tree_of active self.old.me self.old.width own nothing_received }
+    {
+        let _ = active.flags();
+        self.tree.restart(active, own);
+        self.active = active;
+    }
+
+    /// The tree of a cycle, with the own word alone, in the places of the last one where they suffice: then it takes no
+    /// memory. For want of memory the last one stays.
+    pub fn renew(
+        last: &mut Option<RoundTree>,
+        alloc: Global,
+        me: Chan,
+        active: ChanSet,
+        width: u8,
+        own: SourceWord,
+    ) -> Result<(), AllocError>
+        requires mine { IsTrue (has active me) }
+        requires some { 3 ≤ length active }
+        requires narrow { width ≤ 4 }
+        ensures state { OnOk result (last.new ≡ Some (tree_of active me width own nothing_received)) }
+        ensures refused { OnErr result (last.new ≡ last.old) }
+        ensures kept { (t : ExchangeTreeValue) → last.old ≡ Some t → has_places me active width t ≡ true → IsOk result }
+    {
+        if let Some(tree) = last {
+            if tree.has_places(me, active, width) {
+                tree.restart(active, own);
+                return Ok(());
+            }
+        }
+        let tree = RoundTree::begin(alloc, me, active, width, own)?;
+        *last = Some(tree);
+        Ok(())
     }
 
     /// Keeps what was received in a round from a member.
