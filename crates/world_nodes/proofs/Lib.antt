@@ -4,3 +4,4 @@ pub mod Changes
 pub mod Endings
 pub mod Exchanges
 pub mod Contents
+pub mod Deciding

@@ -9,7 +9,7 @@ use Rattle.guards_model.specs.Voting.{Ballots}
 use Rattle.guards_model.specs.Controls.{ClosedValue, closed_by}
 use Rattle.guards_model.specs.Replicas.{sweep_content, final_content, final_taken}
 use Rattle.guards_model.specs.Texts.{LineValue}
-use Rattle.guards_nodes.specs.NodeStates.{StateValue, running, fallen, resting, returning, RunningValue, ExchangeTreeValue, DecidedValue, JoinerValue, NodeValue}
+use Rattle.guards_nodes.specs.NodeStates.{StateValue, running, fallen, resting, returning, RunningValue, ExchangeTreeValue, DecidedValue, JoinerValue, NodeValue, running_or_none}
 use Rattle.guards_nodes.specs.NodeSteps.{Received, StandsFor, tree_for, after_source, after_decision, after_votes, after_close, plan_in, after_sweep_frames, after_final_frames}
 use Rattle.guards_nodes.specs.NodeCalls.{in_state, changed, rejoined}
 use Rattle.guards_world.specs.SlotSteps.{after_damages, joiner_if, after_requests, with_round, ended}
@@ -112,6 +112,23 @@ pub record StandsAt (received : AllReceived) (node : NodeValue) : Type 0 where
 
 abbrev pub with_decisions : MissionValue → ℕ → AllReceived → NodeValue → NodeValue
 with_decisions M c received node = changed (after_decision M.rules c (received node.channel)) node
+
+-- whom a running node keeps as removed, where it has decided
+abbrev pub removed_in : StateValue → Option ChannelSet
+removed_in (running r) = option_map (λ d. d.removed) r.progress.decided
+removed_in fallen = None
+removed_in resting = None
+removed_in (returning j) = None
+
+-- the first of these sets
+abbrev pub first_removed : List NodeValue → Option ChannelSet
+first_removed [] = None
+first_removed (node ∷ nodes) = option_or (removed_in node.state) (first_removed nodes)
+
+-- the first node that runs
+abbrev pub first_running : List NodeValue → Option RunningValue
+first_running [] = None
+first_running (node ∷ nodes) = option_or (running_or_none node.state) (first_running nodes)
 
 -- a running node of the mission has begun the exchange
 pub record MayDecide (M : MissionValue) (node : NodeValue) : Type 0 where
