@@ -3,3 +3,4 @@ pub mod Finding
 pub mod Reading
 pub mod Carrying
 pub mod Members
+pub mod Ranges

@@ -1,5 +1,5 @@
 -- How pieces are kept: a piece that arrived as it was sent is kept without its bytes.
-use Rattle.std.specs.Prelude.{◌≡◌, ⊤, ℕ, Bool, true, false, IsTrue, List, map, Option, Some, None}
+use Rattle.std.specs.Prelude.{◌≡◌, ⊤, ℕ, Bool, true, false, IsTrue, IfSome, List, map, Option, Some, None}
 use Rattle.std.specs.List.{AllByRecursion}
 use Rattle.guards_model.specs.Frames.{FrameValue, in_range, spelling}
 use Rattle.guards_runs.specs.Disturbed.{differs_from}
@@ -43,7 +43,12 @@ IsInRange Own = ⊤
 IsInRange (Other None) = ⊤
 IsInRange (Other (Some frame)) = IsTrue (in_range frame)
 
+-- what each of the pieces spells, if anything, is a frame in range
+abbrev pub SpellInRange : ParcelValue → Type 0
+SpellInRange parcel = AllByRecursion (λ p. IfSome (spelled_by p) (λ frame. IsTrue (in_range frame))) parcel.pieces
+
 -- a frame was read of each piece, if it spells one
 pub record AreRead (parcel : ParcelValue) (readings : List Reading) : Type 0 where
   pub same : map (reading_value parcel.frame) readings ≡ map spelled_by parcel.pieces
   pub range : AllByRecursion IsInRange readings
+  pub spelled : SpellInRange parcel

@@ -3,6 +3,7 @@ ghost use Rattle.std.specs.Prelude.{◌≡◌, ◌==◌, ◌&&◌, IsTrue, find,
 ghost use Rattle.std.specs.List.{list_any};
 ghost use Rattle.std.specs.Option.{option_copied};
 ghost use Rattle.guards_model.specs.Frames.{in_range};
+ghost use Rattle.slot_traffic.specs.Arrivals.{SpellInRange};
 ghost use Rattle.slot_traffic.specs.Pieces.{spelled_by};
 
 use crate::parcel::Parcel;
@@ -32,7 +33,8 @@ impl Model for Opened {
 
 impl Opened {
     pub fn of(alloc: Global, parcel: Parcel) -> Result<Opened, AllocError>
-        ensures { IfOk result (λ opened. opened ≡ parcel) }
+        ensures same { IfOk result (λ opened. opened ≡ parcel) }
+        ensures spelled { IfOk result SpellInRange }
     {
         let readings = parcel.read(alloc)?;
         Ok(Opened { parcel, readings })

@@ -1,14 +1,15 @@
 //! The traffic of a slot, and what arrived of it.
-ghost use Rattle.std.specs.Prelude.{◌≡◌, ℕ, IsTrue, List, [], find, option_and_then, option_map, IfOk, IfSome, OnOk, OnErr};
-ghost use Rattle.std.specs.List.{list_any};
+ghost use Rattle.std.specs.Prelude.{◌≡◌, ℕ, true, IsTrue, List, [], Some, find, option_and_then, option_map, IfOk, IfSome, OnOk, OnErr};
+ghost use Rattle.std.specs.List.{AllByRecursion, list_any};
 ghost use Rattle.std.specs.Option.{option_copied};
 ghost use Rattle.guards_model.specs.declared.Slot.{Slot};
 ghost use Rattle.guards_model.specs.Channels.{channels_where};
-ghost use Rattle.guards_model.specs.Frames.{body_in_range, in_range, spelling};
+ghost use Rattle.guards_model.specs.Frames.{BodyValue, body_in_range, in_range, spelling};
 ghost use Rattle.guards_model.specs.Fields.{frame_in};
 ghost use Rattle.guards_model.specs.Network.{counted_body, is_carry};
 ghost use Rattle.guards_runs.specs.Disturbed.{is_charge};
 ghost use Rattle.icn_frames.specs.Bodies.{view_body};
+ghost use Rattle.slot_traffic.specs.Arrivals.{SpellInRange};
 ghost use Rattle.slot_traffic.specs.Pieces.{entries_of, entries_of_all};
 ghost use Rattle.slot_traffic.specs.Receiving.{receiver_numbers};
 ghost use Rattle.slot_traffic.specs.Sending.{AreCarried, Sends, SendsSome, carries_from};
@@ -52,9 +53,13 @@ pub struct Arrived {
 }
 
 impl Model for Arrived {
+    ghost use Rattle.std.specs.List.{AllByRecursion};
+    ghost use Rattle.slot_traffic.specs.Arrivals.{SpellInRange};
     ghost use Rattle.slot_traffic.specs.Pieces.{ArrivedValue, entries_of_all};
 
     ghost Value = { ArrivedValue };
+
+    ghost invariant = { λ a. AllByRecursion SpellInRange a.parcels.items };
 
     ghost view = { λ a. record { format = a.format; traffic = record { cycle = a.cycle; slot = a.slot; entries = entries_of_all a.cycle a.slot a.parcels.items } } };
 }
@@ -109,7 +114,8 @@ fn charged_of(parcels: &[Parcel]) -> ChanSet
 
 /// Reads each parcel.
 fn opened(alloc: Global, parcels: Vec<Parcel>) -> Result<Sequence<Opened>, AllocError>
-    ensures { IfOk result (λ all. all.items ≡ parcels.items) }
+    ensures same { IfOk result (λ all. all.items ≡ parcels.items) }
+    ensures spelled { IfOk result (λ all. AllByRecursion SpellInRange all.items) }
 {
     let mut all = Sequence::new(alloc);
     for parcel in parcels {
@@ -207,5 +213,13 @@ impl Arrived {
         } else {
             None
         }
+    }
+    /// Whatever counts is in range of the format's version: its frame was read.
+    pub fn fits(&self)
+        ensures { (from to : ℕ) (body : BodyValue) →
+            counted_body self.now.format self.now.traffic.entries self.now.traffic.cycle self.now.traffic.slot from to ≡ Some body →
+            body_in_range self.now.format.version from body ≡ true }
+    {
+        let _slot = self.slot;
     }
 }

@@ -7,6 +7,7 @@ use Rattle.slot_traffic.specs.declared.piece.Reading.{Reading}
 use Rattle.slot_traffic.specs.Pieces.{spelled_by}
 use Rattle.slot_traffic.specs.Arrivals.{AreRead, IsInRange, piece_value, reading_value}
 use Rattle.slot_traffic.proofs.Reading.{both_ok}
+use Rattle.slot_traffic.proofs.Ranges.{pieces_spell}
 use Rattle.slot_traffic.proofs.parcel.Parcel.read.Goals as goal
 
 pub returns : goal.returns
@@ -15,7 +16,10 @@ returns c = rw (← c.self.view_is)
     (λ (r : Seen Reading). AllByRecursion IsInRange r.items)
     (λ (r : Seen Reading). AreRead (record { frame = c.self.inside.frame; pieces = map (piece_value (spelling c.self.inside.frame)) c.self.inside.pieces.items }) r.items)
     c.readings.result
-    (λ r same range. record {
-      same = same c.self.inside.frame c.self.invariant.range ∙ ap (λ xs. map spelled_by (map (piece_value (spelling c.self.inside.frame)) xs)) c.as_slice.ensures;
+    (λ r same range.
+    let read = same c.self.inside.frame c.self.invariant.range ∙ ap (λ xs. map spelled_by (map (piece_value (spelling c.self.inside.frame)) xs)) c.as_slice.ensures in
+    record {
+      same = read;
       range = range;
+      spelled = pieces_spell c.self.inside.frame r.items (map (piece_value (spelling c.self.inside.frame)) c.self.inside.pieces.items) c.self.invariant.range range read;
     }) c.readings.ensures.same c.readings.ensures.range)
