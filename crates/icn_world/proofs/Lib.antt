@@ -1,3 +1,4 @@
 pub mod Entering
 pub mod Handing
 pub mod Outside
+pub mod Chaining

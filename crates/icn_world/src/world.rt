@@ -1,6 +1,7 @@
 //! The world, and what it lends.
 ghost use Rattle.std.specs.Prelude.{◌≡◌, ◌<◌, length, slice_get, Some, IfOk};
 ghost use Rattle.guards_world.specs.Worlds.{first_world};
+ghost use Rattle.icn_world.specs.declared.world.Halt.TheVariants.{NoMemory};
 
 use channel_node::Node;
 use fault_script::Ledger;
@@ -24,6 +25,14 @@ pub enum Halt {
     },
     /// Memory ran out.
     NoMemory,
+}
+
+impl From<AllocError> for Halt {
+    ghost from_gives = { λ _ halt. halt ≡ NoMemory };
+
+    fn from(_error: AllocError) -> Halt {
+        Halt::NoMemory
+    }
 }
 
 /// All nodes, the ledger and the switches. A spent world keeps its halt.
