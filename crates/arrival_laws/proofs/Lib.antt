@@ -1,0 +1,2 @@
+pub mod OfRound
+pub mod Contexts
