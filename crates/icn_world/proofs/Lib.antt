@@ -2,3 +2,4 @@ pub mod Entering
 pub mod Handing
 pub mod Outside
 pub mod Chaining
+pub mod Telling

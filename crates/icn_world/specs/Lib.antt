@@ -2,3 +2,4 @@ pub mod Halts
 pub mod Codes
 pub mod Stages
 pub mod Kept
+pub mod Told

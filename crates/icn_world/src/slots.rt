@@ -1,15 +1,17 @@
 //! How the world enters a cycle and its slots, and hands over what was carried.
-ghost use Rattle.std.specs.Prelude.{◌≡◌, ◌<◌, ◌++◌, true, ℕ, [], OnOk, None};
+ghost use Rattle.std.specs.Prelude.{◌≡◌, ◌<◌, ◌++◌, true, ℕ, [], OnOk, IfOk, None};
 ghost use Rattle.guards_model.specs.declared.Slot.{Slot as SlotValue};
 ghost use Rattle.guards_model.specs.declared.Slot.TheVariants.{Request, Vote, Final};
 ghost use Rattle.guards_model.specs.Slots.{up_to, on_bus};
 ghost use Rattle.guards_model.specs.Network.{Log};
 ghost use Rattle.guards_model.specs.Rounds.{Steps};
+ghost use Rattle.guards_runs.specs.Cycles.{cycle_at};
 ghost use Rattle.guards_world.specs.Worlds.{StandsForWorld};
 ghost use Rattle.guards_world.specs.InCycle.{InCycle};
 ghost use Rattle.world_nodes.specs.NodeLists.{AreInRange};
 ghost use Rattle.world_steps.specs.Arrivals.{AreArrivals, HaveWorked};
 ghost use Rattle.icn_world.specs.Kept.{IsKept};
+ghost use Rattle.icn_world.specs.Told.{AreLinesOf};
 
 use crate::world::World;
 use guards_base::ChanSet;
@@ -71,6 +73,10 @@ impl World {
             AreArrivals self.old.mission (L ++ now) self.old.done Vote (A.got arrived.now) →
             HaveWorked self.old.mission (L ++ now) self.old.done →
             OnOk result (InCycle self.old.mission L now steps Vote 6 6 self.new) }
+        ensures lines { (L now : Log) (steps : Steps) → InCycle self.old.mission L now steps Vote 6 5 self.old →
+            AreArrivals self.old.mission (L ++ now) self.old.done Vote (A.got arrived.now) →
+            HaveWorked self.old.mission (L ++ now) self.old.done →
+            IfOk result (λ lines. AreLinesOf self.old.mission (cycle_at self.old.mission (L ++ now) self.old.done) Vote lines.items) }
     {
         let lines = self.nodes.take_votes(alloc, &self.mission, arrived)?;
         Ok(lines)
