@@ -11,7 +11,6 @@ use Rattle.guards_runs.specs.Due.{Carry}
 use Rattle.guards_nodes.specs.NodeStates.{NodeValue}
 use Rattle.guards_nodes.specs.NodeSteps.{Received}
 use Rattle.guards_world.specs.OwedFrames.{body_of}
-use Rattle.slot_traffic.specs.Pieces.{TrafficValue}
 use Rattle.slot_traffic.specs.Sending.{IsCarryOf}
 use Rattle.world_nodes.specs.NodeLists.{AllReceived}
 

@@ -1,5 +1,7 @@
 //! What arrived in a slot, as the nodes take it.
 ghost use Rattle.std.specs.Prelude.{◌≡◌};
+ghost use Rattle.world_nodes.specs.NodeLists.{AreInRange};
+ghost use Rattle.world_traffic.specs.Reading.{got_of};
 
 use guards_base::Chan;
 use icn_frames::Body;
@@ -25,6 +27,13 @@ impl Delivered {
         ensures { result ≡ arrived }
     {
         Delivered { arrived }
+    }
+
+    /// Whatever arrived is in range: its frame was read.
+    pub fn fits(&self)
+        ensures { AreInRange (got_of self.now) }
+    {
+        self.arrived.fits()
     }
 }
 
