@@ -2,3 +2,4 @@ pub mod Keeping
 pub mod Following
 pub mod Working
 pub mod Running
+pub mod Finishing

@@ -2,6 +2,8 @@
 //! cycle is whose slots are all done. Each is the contract of a function without a body.
 #![tactic(auto)]
 
+mod ending;
 mod staying;
 
+pub use ending::{cycles_finish, cycles_run_out, cycles_stop};
 pub use staying::{channels_run, decisions_stay, full_stays, later_slots_follow, steps_come_later};
