@@ -3,3 +3,4 @@ pub mod Handing
 pub mod Outside
 pub mod Chaining
 pub mod Telling
+pub mod Fronts
