@@ -4,3 +4,7 @@ pub mod Outside
 pub mod Chaining
 pub mod Telling
 pub mod Fronts
+pub mod Entered
+pub mod Closing
+pub mod Taking
+pub mod AfterCycle

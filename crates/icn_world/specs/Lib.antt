@@ -3,3 +3,4 @@ pub mod Codes
 pub mod Stages
 pub mod Kept
 pub mod Told
+pub mod Restored

@@ -1,6 +1,8 @@
 //! The world: all channels' nodes, the ledger and the switches, which pass a mission cycle by cycle.
 #![tactic(auto)]
 
+mod ending;
+mod restoring;
 mod slots;
 mod world;
 

@@ -12,6 +12,7 @@ ghost use Rattle.world_nodes.specs.NodeLists.{AreInRange};
 ghost use Rattle.world_steps.specs.Arrivals.{AreArrivals, HaveWorked};
 ghost use Rattle.icn_world.specs.Kept.{IsKept};
 ghost use Rattle.icn_world.specs.Told.{AreLinesOf};
+ghost use Rattle.icn_world.specs.Restored.{HaveTaken};
 
 use crate::world::World;
 use guards_base::ChanSet;
@@ -93,6 +94,9 @@ impl World {
         ensures state { (L now : Log) (steps : Steps) → InCycle self.old.mission L now steps Final 8 7 self.old →
             AreArrivals self.old.mission (L ++ now) self.old.done Final (A.got arrived.now) →
             OnOk result (InCycle self.old.mission L now steps Final 8 8 self.new) }
+        ensures taken { (L now : Log) (steps : Steps) → InCycle self.old.mission L now steps Final 8 7 self.old →
+            AreArrivals self.old.mission (L ++ now) self.old.done Final (A.got arrived.now) →
+            IfOk result (λ taken. HaveTaken taken self.old.mission (L ++ now) self.old.done steps) }
     {
         let members = self.switchboard.on();
         let taken = self.nodes.take_final(alloc, members, arrived)?;
