@@ -5,12 +5,17 @@ use Rattle.std.proofs.lemmas.List.{append-nil, append_assoc, length-append}
 use Rattle.guards_model.specs.BusRules.{RuleValue}
 use Rattle.guards_model.specs.Network.{EntryValue, Log}
 use Rattle.guards_model.specs.Rounds.{Steps}
+use Rattle.guards_model.specs.Missions.{MissionValue}
 use Rattle.guards_model.proofs.Membership.{All-append}
 use Rattle.std.specs.List.{AllByRecursion}
+use Rattle.std.specs.Result.{IsErrAnd}
 use Rattle.guards_world.specs.Worlds.{WorldValue}
 use Rattle.guards_world.specs.WorldCycle.{BusValue, Carries}
+use Rattle.world_laws.specs.Passing.{IsFront}
 use Rattle.fault_script.specs.declared.disturbance.Disturbance.{Disturbance}
 use Rattle.icn_world.specs.declared.world.Halt.{Halt}
+use Rattle.icn_world.specs.declared.world.Halt.TheVariants.{NoMemory}
+use Rattle.icn_world.specs.Kept.{IsKept}
 use Rattle.icn_world.specs.Stages.{Condition, Reaches, Goes}
 
 carries_on : (may : List RuleValue → EntryValue → Type 0) (b b1 b2 : BusValue) (first second : Log) →
@@ -58,6 +63,18 @@ halted one =
       ends = λ L now steps held. one.ends L now steps held;
     }
 
+-- the error that a `?` takes on
+pub err_is : {A : Type 0} (r : Result A Halt) (h : Halt) → IsErrAnd r (λ x. x ≡ h) → r ≡ Err h
+err_is (Ok x) h is = absurd is
+err_is (Err x) h is = ap Err is
+
+-- the same, where a `?` takes on the halt
+pub halted_by : {A B : Type 0} {may : List RuleValue → EntryValue → Type 0} {P : Condition} {Q : A → Condition} {R : B → Condition}
+    {h : Halt} {w w1 : WorldValue} {d d1 : Disturbance} {b b1 : BusValue} (r : Result B Halt) → IsErrAnd r (λ x. x ≡ h) →
+    Goes may P Q (Err h) w w1 d d1 b b1 → Goes may P R r w w1 d d1 b b1
+halted_by {may = may} {P = P} {R = R} {h = h} {w = w} {w1 = w1} {d = d} {d1 = d1} {b = b} {b1 = b1} r is one =
+    subst (λ (x : Result _ Halt). Goes may P R x w w1 d d1 b b1) (sym (err_is r h is)) (halted one)
+
 -- a part that carries nothing
 pub without_carry : {A : Type 0} (may : List RuleValue → EntryValue → Type 0) (P : Condition) (Q : A → Condition)
     (r : Result A Halt) (w w1 : WorldValue) (d d1 : Disturbance) (b : BusValue) →
@@ -71,6 +88,53 @@ without_carry may P Q r w w1 d d1 b mission done count ends =
       done = done;
       count = omega (arith, count);
       ends = λ L now steps held. subst (λ (all : Log). Reaches Q r L all steps w1 d1) (sym (append-nil now)) (ends L now steps held);
+    }
+
+-- a part that finds no memory, when what was carried before is a front of what is due
+pub without_memory : {A : Type 0} (may : List RuleValue → EntryValue → Type 0) (P : Condition) (Q : A → Condition)
+    (r : Result A Halt) (w w1 : WorldValue) (d : Disturbance) (b : BusValue) → IsErrAnd r (λ x. x ≡ NoMemory) → IsKept w w1 →
+    ((L now : Log) (steps : Steps) → P L now steps w d → IsFront w.mission L now w.done) → Goes may P Q r w w1 d d b b
+without_memory may P Q r w w1 d b none kept front =
+    subst (λ (x : Result _ Halt). Goes may P Q x w w1 d d b b) (sym (err_is r NoMemory none))
+    (without_carry may P Q (Err NoMemory) w w1 d d b kept.mission kept.done kept.carried
+    (λ L now steps held. subst (λ (n : ℕ). IsFront w1.mission L now n) (sym kept.done)
+    (subst (λ (M : MissionValue). IsFront M L now w.done) (sym kept.mission) (front L now steps held))))
+
+-- a step that carries nothing, and then a part
+pub after_step : {A : Type 0} {may : List RuleValue → EntryValue → Type 0} {P : Condition} {Q : A → Condition}
+    {r : Result A Halt} {w1 w2 : WorldValue} {d d2 : Disturbance} {b b2 : BusValue} (O : Condition) (w : WorldValue) → IsKept w w1 →
+    ((L now : Log) (steps : Steps) → O L now steps w d → P L now steps w1 d) →
+    Goes may P Q r w1 w2 d d2 b b2 → Goes may O Q r w w2 d d2 b b2
+after_step {may = may} {P = P} {w1 = w1} {d = d} {b = b} O w kept step one =
+    then {x = tt} (without_carry may O (λ (u : Unit {0}). P) (Ok tt) w w1 d d b kept.mission kept.done kept.carried step) one
+
+-- a part that ended well, and then a step that carries nothing
+pub then_step : {A B : Type 0} {may : List RuleValue → EntryValue → Type 0} {P : Condition} {Q : A → Condition}
+    {x : A} {w w1 : WorldValue} {d d1 : Disturbance} {b b1 : BusValue} (R : B → Condition) (y : B) (w2 : WorldValue) → IsKept w1 w2 →
+    ((L now : Log) (steps : Steps) → Q x L now steps w1 d1 → R y L now steps w2 d1) →
+    Goes may P Q (Ok x) w w1 d d1 b b1 → Goes may P R (Ok y) w w2 d d1 b b1
+then_step {may = may} {Q = Q} {x = x} {w1 = w1} {d1 = d1} {b1 = b1} R y w2 kept step one =
+    then one (without_carry may (Q x) R (Ok y) w1 w2 d1 d1 b1 kept.mission kept.done kept.carried step)
+
+reaches_more : {A : Type 0} (Q R : A → Condition) (r : Result A Halt) (L now : Log) (steps : Steps) (w : WorldValue) (d : Disturbance) →
+    ((x : A) → Q x L now steps w d → R x L now steps w d) → Reaches Q r L now steps w d → Reaches R r L now steps w d
+reaches_more Q R (Ok x) L now steps w d more held = more x held
+reaches_more Q R (Err h) L now steps w d more held = held
+
+-- a part of which more is known by what held before it
+pub knowing : {A : Type 0} {may : List RuleValue → EntryValue → Type 0} {P : Condition} {Q : A → Condition}
+    {r : Result A Halt} {w w1 : WorldValue} {d d1 : Disturbance} {b b1 : BusValue} (R : A → Condition) →
+    ((x : A) (L now new : Log) (steps : Steps) → P L now steps w d → Q x L (now ++ new) steps w1 d1 → R x L (now ++ new) steps w1 d1) →
+    Goes may P Q r w w1 d d1 b b1 → Goes may P R r w w1 d d1 b b1
+knowing {Q = Q} {r = r} {w1 = w1} {d1 = d1} R more one =
+    record {
+      entries = one.entries;
+      carries = one.carries;
+      mission = one.mission;
+      done = one.done;
+      count = one.count;
+      ends = λ L now steps held.
+          reaches_more Q R r L (now ++ one.entries) steps w1 d1 (λ x found. more x L now one.entries steps held found) (one.ends L now steps held);
     }
 
 -- a part whose condition follows from another one
