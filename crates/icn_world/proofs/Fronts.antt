@@ -1,4 +1,4 @@
--- What was carried of a cycle so far is a front of what is due.
+-- What a cycle carried so far is a front of its due entries.
 use Rattle.std.proofs.Common.{◌≡◌, ℕ, true, List, [], ◌++◌, subst}
 use Rattle.std.proofs.lemmas.List.{append-nil}
 use Rattle.guards_model.specs.declared.Slot.{Slot}
@@ -8,13 +8,14 @@ use Rattle.guards_model.specs.Network.{Log}
 use Rattle.guards_model.specs.Rounds.{Steps}
 use Rattle.guards_world.specs.Worlds.{WorldValue}
 use Rattle.guards_world.specs.InCycle.{InCycle}
-use Rattle.world_laws.specs.Passing.{world_in, IsFront}
+use Rattle.world_laws.specs.Passing.{IsFront, world_in}
 use Rattle.world_laws.proofs.Passing.{enters_slot, breaks_slot}
 
--- where all slots before this one are carried
-pub front_so_far : (M : MissionValue) (L now : Log) (steps : Steps) (slot next : Slot) (handed : ℕ) (w : WorldValue) → on_bus next ≡ true →
+-- where the next slot of the bus is this one
+pub is_front : (M : MissionValue) (L now : Log) (steps : Steps) (slot next : Slot) (handed : ℕ) (w : WorldValue) → on_bus next ≡ true →
     InCycle M L now steps slot (slot_index next) handed w → IsFront M L now w.done
-front_so_far M L now steps slot next handed w on inside =
+is_front M L now steps slot next handed w on inside =
+    let entered : InCycle M L now steps next (slot_index next) (slot_index next) (world_in M (L ++ now) steps next (slot_index next) w) =
+    enters_slot M L now steps slot next (slot_index next) handed (slot_index next) w inside in
     subst (λ (all : Log). IsFront M L all w.done) (append-nil now)
-    (breaks_slot M L now [] steps next on (world_in M (L ++ now) steps next (slot_index next) w)
-    (enters_slot M L now steps slot next (slot_index next) handed (slot_index next) w inside) 0 tt)
+    (breaks_slot M L now [] steps next on (world_in M (L ++ now) steps next (slot_index next) w) entered 0 tt)

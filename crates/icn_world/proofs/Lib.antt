@@ -8,4 +8,3 @@ pub mod Entered
 pub mod Closing
 pub mod Taking
 pub mod AfterCycle
-pub mod Fronts
