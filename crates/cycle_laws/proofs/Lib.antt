@@ -3,3 +3,4 @@ pub mod Following
 pub mod Working
 pub mod Running
 pub mod Finishing
+pub mod Sizes
