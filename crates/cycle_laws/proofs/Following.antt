@@ -84,7 +84,7 @@ abbrev at : ℕ → Slot → Bool
 at j s = slot_index s == j
 
 -- the carries of a slot are in it
-in_slot : (c : ℕ) (x : Cycle) (slot : Slot) (P : Slot → Bool) → P slot ≡ true → list_all (λ (carry : Carry). P carry.slot) (slot_carries c x slot) ≡ true
+pub in_slot : (c : ℕ) (x : Cycle) (slot : Slot) (P : Slot → Bool) → P slot ≡ true → list_all (λ (carry : Carry). P carry.slot) (slot_carries c x slot) ≡ true
 in_slot c x slot P h = by_frames (carries_frames x slot)
   where
     by_frames : (b : Bool) → list_all (λ (carry : Carry). P carry.slot) (cond b (flat_map (λ q. map (λ to. record { cycle = c; slot = slot; from = q; to = to }) (without (receivers x slot) (q ∷ []))) (channels_where (is_sender x slot))) []) ≡ true
@@ -104,7 +104,7 @@ none_in c x j slot off = count_none (λ (carry : Carry). at j carry.slot) (slot_
 
 -- ---- entries and carries
 
-abbrev Made : MissionValue → Log → ℕ → Steps → Carry → EntryValue → Type 0
+abbrev pub Made : MissionValue → Log → ℕ → Steps → Carry → EntryValue → Type 0
 Made M L n steps carry entry = IsMadeBy M (cycles_before M L n) (cycle_at M L n) (steps_of steps carry.from) carry entry
 
 as_many : (M : MissionValue) (L : Log) (n : ℕ) (steps : Steps) (j : ℕ) (carries : List Carry) (entries : Log) → AllZip (Made M L n steps) carries entries → carries_at j carries ≡ entries_at j entries
@@ -117,7 +117,7 @@ as_many M L n steps j (x ∷ carries) (y ∷ entries) z =
     ∙ ap (λ k. one_if (at j y.slot) + k) (as_many M L n steps j carries entries z.1)
     ∙ sym (count-cons (λ (v : EntryValue). at j v.slot) y entries)
 
-of_cycle : (M : MissionValue) (L : Log) (n : ℕ) (steps : Steps) (carries : List Carry) (entries : Log) → list_all (λ (carry : Carry). carry.cycle == n) carries ≡ true →
+pub of_cycle : (M : MissionValue) (L : Log) (n : ℕ) (steps : Steps) (carries : List Carry) (entries : Log) → list_all (λ (carry : Carry). carry.cycle == n) carries ≡ true →
     AllZip (Made M L n steps) carries entries → list_all (λ (y : EntryValue). y.cycle == n) entries ≡ true
 of_cycle M L n steps [] [] h z = refl
 of_cycle M L n steps [] (y ∷ entries) h z = absurd z

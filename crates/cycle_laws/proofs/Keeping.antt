@@ -44,7 +44,7 @@ module _ (M : MissionValue) (L new : Log) (n place : ℕ) (late : AreFromPlace n
   known slot early = facts_stand M (entries_of c L) (entries_of c new) past slot (weaken c (suc (slot_index slot)) place (entries_of c new) early late_here)
 
   -- what holds of the past and of the cycle with the new entries holds of the longer log
-  grown : (Φ : Past → Cycle → Type 0) → Φ past more → Φ (cycles_before M (L ++ new) n) (cycle_at M (L ++ new) n)
+  pub grown : (Φ : Past → Cycle → Type 0) → Φ past more → Φ (cycles_before M (L ++ new) n) (cycle_at M (L ++ new) n)
   grown Φ h =
       subst (λ (p : Past). Φ p (next_cycle M (L ++ new) p)) (sym (cycles_before-append M L new n (from_cycle n place new late)))
       (subst (λ es. Φ past (cycle_from M es past)) (sym (filter-append (λ (y : EntryValue). y.cycle == c) L new)) h)
@@ -71,6 +71,9 @@ module _ (M : MissionValue) (L new : Log) (n place : ℕ) (late : AreFromPlace n
   unfolding cycle_from
   opening_same = refl
 
+  pub opening_later : (cycle_at M (L ++ new) n).opening ≡ (cycle_at M L n).opening
+  opening_later = grown (λ p x. x.opening ≡ e.opening) opening_same
+
   ideal_same : 4 ≤ place → more.ideal_context ≡ e.ideal_context
   unfolding cycle_from work_of
   ideal_same early = ap (λ (a : Agreement). whole (cycle_writes M c) (ideal_after M past) c a.inputs) ((known Round3 early).agreed refl)
@@ -84,7 +87,7 @@ module _ (M : MissionValue) (L new : Log) (n place : ℕ) (late : AreFromPlace n
       let facts = known Round3 early in
       record {
         past = cycles_before-append M L new n (from_cycle n place new late);
-        opening = grown (λ p x. x.opening ≡ e.opening) opening_same;
+        opening = opening_later;
         agreement = grown (λ p x. x.agreement ≡ e.agreement) (facts.agreed refl);
         decision = grown (λ p x. x.decision ≡ e.decision) (facts.decided refl);
         ideal_context = grown (λ p x. x.ideal_context ≡ e.ideal_context) (ideal_same early);

@@ -4,3 +4,4 @@ pub mod Working
 pub mod Running
 pub mod Finishing
 pub mod Sizes
+pub mod SlotEnding

@@ -2,10 +2,12 @@
 //! cycle is whose slots are all done. Each is the contract of a function without a body.
 #![tactic(auto)]
 
+mod carried;
 mod counts;
 mod ending;
 mod staying;
 
+pub use carried::slots_end;
 pub use counts::entries_fit;
 pub use ending::{cycles_finish, cycles_run_out, cycles_stop};
 pub use staying::{channels_run, decisions_stay, full_stays, later_slots_follow, steps_come_later};
