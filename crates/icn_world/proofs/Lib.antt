@@ -8,3 +8,4 @@ pub mod Entered
 pub mod Closing
 pub mod Taking
 pub mod AfterCycle
+pub mod Carried
