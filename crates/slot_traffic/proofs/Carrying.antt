@@ -1,7 +1,9 @@
 -- Carries one after the other, and what they come to.
-use Rattle.std.proofs.Common.{◌≡◌, ℕ, suc, zero, List, [], ◌∷◌, ◌++◌, length, map, take, drop, get_or, refl, sym, ap, ◌∙◌, subst, arith}
+use Rattle.std.proofs.Common.{◌≡◌, ℕ, suc, zero, ◌+◌, List, [], ◌∷◌, ◌++◌, length, map, take, drop, get_or, refl, sym, ap, ◌∙◌, subst, arith}
 use Rattle.std.specs.List.{AllZip}
-use Rattle.std.proofs.lemmas.List.{append-nil}
+use Rattle.std.specs.Prelude.{sum_by}
+use Rattle.std.proofs.lemmas.List.{append-nil, length-append, length-map}
+use Rattle.std.proofs.lemmas.List.Sums.{sum_by-cons}
 use Rattle.std.proofs.Math.Seq.{take-nil}
 use Rattle.std.proofs.lemmas.Grind.{flat_map-append}
 use Rattle.guards_model.specs.declared.Slot.{Slot}
@@ -14,7 +16,7 @@ use Rattle.slot_traffic.specs.Pieces.{PieceValue, ParcelValue, entry_by, entries
 use Rattle.slot_traffic.specs.declared.piece.Piece.{Piece}
 use Rattle.slot_traffic.specs.Arrivals.{piece_value}
 use Rattle.slot_traffic.specs.Carried.{AreDelivered, AreSomeDelivered}
-use Rattle.slot_traffic.specs.Sending.{IsCarryOf, AreCarried, SendsSome, carries_from}
+use Rattle.slot_traffic.specs.Sending.{IsCarryOf, AreCarried, carries_from}
 
 abbrev carry_to : ℕ → Slot → Channel → ℕ → Carry
 carry_to c slot from to = record { cycle = c; slot = slot; from = from; to = to }
@@ -63,40 +65,49 @@ all_sent may script old new c slot from receivers sent pieces d = record {
 }
 
 pub some_sent : (may : List RuleValue → EntryValue → Type 0) (script : List RuleValue) (old new : Log) (c : ℕ) (slot : Slot)
-    (from : Channel) (receivers : List ℕ) (sent : List ℕ) →
-    AreSomeDelivered may script old new c slot from (without receivers (from ∷ [])) sent →
-    SendsSome may script old new sent (carries_from c slot from receivers)
-some_sent may script old new c slot from receivers sent some = record {
-  now = map (entry_by c slot from sent) some.pieces;
-  carried = record {
-    grew = some.delivered.grew;
-    each = few_carried c slot from sent (without receivers (from ∷ [])) some.few some.pieces some.delivered.each;
-    allowed = some.delivered.allowed;
-  };
+    (from : Channel) (receivers : List ℕ) (sent : List ℕ) (pieces : List PieceValue) →
+    AreSomeDelivered may script old new c slot from (without receivers (from ∷ [])) sent pieces →
+    AreCarried may script old new sent (take (length (map (entry_by c slot from sent) pieces)) (carries_from c slot from receivers)) (map (entry_by c slot from sent) pieces)
+some_sent may script old new c slot from receivers sent pieces some = record {
+  grew = some.delivered.grew;
+  each = few_carried c slot from sent (without receivers (from ∷ [])) some.few pieces some.delivered.each;
+  allowed = some.delivered.allowed;
 }
 
+-- the entries of a frame's pieces
+abbrev pub entries_by : ℕ → Slot → FrameValue → List Piece → Log
+entries_by c slot frame pieces = map (entry_by c slot frame.sender (spelling frame)) (map (piece_value (spelling frame)) pieces)
+
 -- the same for a frame by its sender and its spelling
-pub parcel_sent : (may : List RuleValue → EntryValue → Type 0) (script : List RuleValue) (old new : Log) (c : ℕ) (slot : Slot)
-    (from : Channel) (numbers receivers : List ℕ) (sent : List ℕ) (pieces : List Piece) (frame : FrameValue) (parcel : ParcelValue) →
+pub frame_sent : (may : List RuleValue → EntryValue → Type 0) (script : List RuleValue) (old new : Log) (c : ℕ) (slot : Slot)
+    (from : Channel) (numbers receivers : List ℕ) (sent : List ℕ) (pieces : List Piece) (frame : FrameValue) →
     from ≡ frame.sender → numbers ≡ without receivers (from ∷ []) → sent ≡ spelling frame →
-    parcel ≡ record { frame = frame; pieces = map (piece_value (spelling frame)) pieces } →
     AreDelivered may script old new c slot from numbers sent (map (piece_value sent) pieces) →
-    AreCarried may script old new (spelling frame) (carries_from c slot frame.sender receivers) (entries_of c slot parcel)
-parcel_sent may script old new c slot from numbers receivers sent pieces frame parcel sender are is made d =
-    rw made (rw (← is, ← sender) (all_sent may script old new c slot from receivers sent (map (piece_value sent) pieces)
-    (subst (λ ns. AreDelivered may script old new c slot from ns sent (map (piece_value sent) pieces)) are d)))
+    AreCarried may script old new (spelling frame) (carries_from c slot frame.sender receivers) (entries_by c slot frame pieces)
+frame_sent may script old new c slot from numbers receivers sent pieces frame sender are is d =
+    rw (← is, ← sender) (all_sent may script old new c slot from receivers sent (map (piece_value sent) pieces)
+    (subst (λ ns. AreDelivered may script old new c slot from ns sent (map (piece_value sent) pieces)) are d))
 
 pub few_sent : (may : List RuleValue → EntryValue → Type 0) (script : List RuleValue) (old new : Log) (c : ℕ) (slot : Slot)
-    (from : Channel) (numbers receivers : List ℕ) (sent : List ℕ) (frame : FrameValue) →
+    (from : Channel) (numbers receivers : List ℕ) (sent : List ℕ) (pieces : List Piece) (frame : FrameValue) →
     from ≡ frame.sender → numbers ≡ without receivers (from ∷ []) → sent ≡ spelling frame →
-    AreSomeDelivered may script old new c slot from numbers sent →
-    SendsSome may script old new (spelling frame) (carries_from c slot frame.sender receivers)
-few_sent may script old new c slot from numbers receivers sent frame sender are is d =
-    rw (← is, ← sender) (some_sent may script old new c slot from receivers sent
-    (subst (λ ns. AreSomeDelivered may script old new c slot from ns sent) are d))
+    AreSomeDelivered may script old new c slot from numbers sent (map (piece_value sent) pieces) →
+    AreCarried may script old new (spelling frame) (take (length (entries_by c slot frame pieces)) (carries_from c slot frame.sender receivers)) (entries_by c slot frame pieces)
+few_sent may script old new c slot from numbers receivers sent pieces frame sender are is d =
+    rw (← is, ← sender) (some_sent may script old new c slot from receivers sent (map (piece_value sent) pieces)
+    (subst (λ ns. AreSomeDelivered may script old new c slot from ns sent (map (piece_value sent) pieces)) are d))
 
 -- a parcel more
 pub one_more : (c : ℕ) (slot : Slot) (parcels : List ParcelValue) (parcel : ParcelValue) →
     entries_of_all c slot (parcels ++ parcel ∷ []) ≡ entries_of_all c slot parcels ++ entries_of c slot parcel
 one_more c slot parcels parcel =
     flat_map-append (entries_of c slot) parcels (parcel ∷ []) ∙ ap (λ l. entries_of_all c slot parcels ++ l) (append-nil (entries_of c slot parcel))
+
+-- each piece is one entry
+pub pieces_counted : (c : ℕ) (slot : Slot) (parcels : List ParcelValue) → sum_by (λ (p : ParcelValue). length p.pieces) parcels ≡ length (entries_of_all c slot parcels)
+pieces_counted c slot [] = refl
+pieces_counted c slot (p ∷ ps) =
+    sum_by-cons (λ (p : ParcelValue). length p.pieces) p ps
+    ∙ ap (λ n. length p.pieces + n) (pieces_counted c slot ps)
+    ∙ ap (λ n. n + length (entries_of_all c slot ps)) (sym (length-map p.pieces (entry_by c slot p.frame.sender (spelling p.frame))))
+    ∙ sym (length-append (entries_of c slot p) (entries_of_all c slot ps))

@@ -16,7 +16,6 @@ pub record AreDelivered (may : List RuleValue → EntryValue → Type 0) (script
 
 -- the same for the first few receivers
 pub record AreSomeDelivered (may : List RuleValue → EntryValue → Type 0) (script : List RuleValue) (old new : Log)
-    (c : ℕ) (slot : Slot) (from : Channel) (receivers : List ℕ) (sent : List ℕ) : Type 0 where
+    (c : ℕ) (slot : Slot) (from : Channel) (receivers : List ℕ) (sent : List ℕ) (pieces : List PieceValue) : Type 0 where
   pub few : ℕ
-  pub pieces : List PieceValue
   pub delivered : AreDelivered may script old new c slot from (take few receivers) sent pieces

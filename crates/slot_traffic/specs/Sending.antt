@@ -35,8 +35,9 @@ pub record Sends (may : List RuleValue → EntryValue → Type 0) (script : List
   pub carried : AreCarried may script old new sent carries now
   pub traffic : after ≡ record { cycle = before.cycle; slot = before.slot; entries = before.entries ++ now }
 
--- the first few of these were carried
+-- the first few of these were carried, and the traffic grew by the same entries
 pub record SendsSome (may : List RuleValue → EntryValue → Type 0) (script : List RuleValue) (old new : Log)
-    (sent : List ℕ) (carries : List Carry) : Type 0 where
+    (sent : List ℕ) (carries : List Carry) (before after : TrafficValue) : Type 0 where
   pub now : Log
   pub carried : AreCarried may script old new sent (take (length now) carries) now
+  pub traffic : after ≡ record { cycle = before.cycle; slot = before.slot; entries = before.entries ++ now }

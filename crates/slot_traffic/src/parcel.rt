@@ -1,5 +1,5 @@
 //! The frame of a sender, with what was delivered of it.
-ghost use Rattle.std.specs.Prelude.{◌≡◌, ◌==◌, ℕ, List, IsTrue, map, find, option_and_then, IfOk, IfSome};
+ghost use Rattle.std.specs.Prelude.{◌≡◌, ◌==◌, ℕ, List, IsTrue, length, map, find, option_and_then, IfOk, IfSome};
 ghost use Rattle.std.specs.List.{AllByRecursion, list_any};
 ghost use Rattle.std.specs.Option.{option_copied};
 ghost use Rattle.guards_model.specs.Frames.{FrameValue, in_range, spelling};
@@ -143,6 +143,13 @@ impl Parcel {
         ensures { result ≡ self.now.frame.sender }
     {
         sender_of(&self.frame)
+    }
+
+    /// The number of its pieces.
+    pub fn len(&self) -> usize
+        ensures { result ≡ length self.now.pieces }
+    {
+        self.pieces.len()
     }
 
     /// Whether one of the pieces was not delivered as sent.

@@ -1,5 +1,5 @@
 //! The pieces of one frame: what was delivered to each receiver.
-ghost use Rattle.std.specs.Prelude.{◌≡◌, map, IfOk, OnErr, option_map};
+ghost use Rattle.std.specs.Prelude.{◌≡◌, ◌≤◌, [], length, map, OnOk, OnErr, option_map};
 ghost use Rattle.std.specs.List.{AllByRecursion};
 ghost use Rattle.guards_model.specs.Frames.{FrameValue};
 ghost use Rattle.guards_runs.specs.Disturbed.{differs_from};
@@ -54,29 +54,30 @@ fn arrival_of(sent: &[u8], delivered: Option<Bytes>) -> Arrival
     }
 }
 
-/// Carries a piece to each receiver, in order, and answers what was delivered.
+/// Carries a piece to each receiver, in order, and puts what was delivered into the list, which has room for it. For want of
+/// memory the first few receivers were served, and the list has their pieces.
 pub fn carry_to_each<B: Bus>(
-    alloc: Global,
     bus: &mut B,
     cycle: u32,
     slot: Slot,
     from: Chan,
     receivers: &[u8],
     sent: &[u8],
-) -> Result<Sequence<Piece>, AllocError>
+    pieces: &mut Sequence<Piece>,
+) -> Result<(), AllocError>
+    requires empty { pieces.old.items ≡ [] }
+    requires room { length receivers.now ≤ pieces.old.spare }
     ensures script { B.script bus.new ≡ B.script bus.old }
-    ensures carried { IfOk result (λ pieces. AreDelivered B.may (B.script bus.old) (B.log bus.old) (B.log bus.new)
-        cycle slot from receivers.now sent.now (map (piece_value sent.now) pieces.items)) }
-    ensures marked { IfOk result (λ pieces. AllByRecursion (IsMarked sent.now) pieces.items) }
+    ensures carried { OnOk result (AreDelivered B.may (B.script bus.old) (B.log bus.old) (B.log bus.new)
+        cycle slot from receivers.now sent.now (map (piece_value sent.now) pieces.new.items)) }
     ensures some { OnErr result (AreSomeDelivered B.may (B.script bus.old) (B.log bus.old) (B.log bus.new)
-        cycle slot from receivers.now sent.now) }
+        cycle slot from receivers.now sent.now (map (piece_value sent.now) pieces.new.items)) }
+    ensures marked { AllByRecursion (IsMarked sent.now) pieces.new.items }
 {
-    let mut pieces = Sequence::new(alloc);
-    pieces.reserve(receivers.len())?;
     for to in receivers {
         let delivered = bus.carry(cycle, slot, from, *to, sent)?;
         let arrival = arrival_of(sent, delivered);
         pieces.push_reserved(Piece { to: *to, arrival });
     }
-    Ok(pieces)
+    Ok(())
 }

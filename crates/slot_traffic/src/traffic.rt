@@ -1,5 +1,5 @@
 //! The traffic of a slot, and what arrived of it.
-ghost use Rattle.std.specs.Prelude.{◌≡◌, ℕ, true, IsTrue, List, [], Some, find, option_and_then, option_map, IfOk, IfSome, OnOk, OnErr};
+ghost use Rattle.std.specs.Prelude.{◌≡◌, ◌≤◌, ℕ, true, IsTrue, List, [], length, map, take, sum_by, Some, find, option_and_then, option_map, IfOk, IfSome, OnOk, OnErr};
 ghost use Rattle.std.specs.List.{AllByRecursion, list_any};
 ghost use Rattle.std.specs.Option.{option_copied};
 ghost use Rattle.guards_model.specs.declared.Slot.{Slot};
@@ -9,15 +9,15 @@ ghost use Rattle.guards_model.specs.Fields.{frame_in};
 ghost use Rattle.guards_model.specs.Network.{counted_body, is_carry};
 ghost use Rattle.guards_runs.specs.Disturbed.{is_charge};
 ghost use Rattle.icn_frames.specs.Bodies.{view_body};
-ghost use Rattle.slot_traffic.specs.Arrivals.{SpellInRange};
-ghost use Rattle.slot_traffic.specs.Pieces.{entries_of, entries_of_all};
+ghost use Rattle.slot_traffic.specs.Arrivals.{IsMarked, SpellInRange, piece_value};
+ghost use Rattle.slot_traffic.specs.Pieces.{entry_by, entries_of_all};
 ghost use Rattle.slot_traffic.specs.Receiving.{receiver_numbers};
 ghost use Rattle.slot_traffic.specs.Sending.{AreCarried, Sends, SendsSome, carries_from};
 
 use crate::format::Format;
 use crate::opened::Opened;
 use crate::parcel::{Parcel, sender_of};
-use crate::piece::carry_to_each;
+use crate::piece::{Piece, carry_to_each};
 use crate::receivers::Receivers;
 use guards_base::{Chan, ChanSet, Sequence, Slot};
 use icn_bus::Bus;
@@ -64,35 +64,42 @@ impl Model for Arrived {
     ghost view = { λ a. record { format = a.format; traffic = record { cycle = a.cycle; slot = a.slot; entries = entries_of_all a.cycle a.slot a.parcels.items } } };
 }
 
-/// Encodes a frame once, and carries it to each receiver but its sender.
+/// Encodes a frame once, and carries it to each receiver but its sender. The list gets what was delivered, also where memory
+/// ran out after the first few.
 fn carried<B: Bus>(
     alloc: Global,
     bus: &mut B,
     cycle: u32,
     slot: Slot,
-    frame: Frame,
+    frame: &Frame,
     receivers: Receivers,
-) -> Result<Parcel, AllocError>
-    requires { IsTrue (in_range frame) }
+    pieces: &mut Sequence<Piece>,
+) -> Result<(), AllocError>
+    requires range { IsTrue (in_range frame.now) }
+    requires empty { pieces.old.items ≡ [] }
     ensures script { B.script bus.new ≡ B.script bus.old }
-    ensures sent { IfOk result (λ parcel. AreCarried B.may (B.script bus.old) (B.log bus.old) (B.log bus.new) (spelling frame)
-        (carries_from cycle slot frame.sender (receiver_numbers receivers)) (entries_of cycle slot parcel)) }
-    ensures some { OnErr result (SendsSome B.may (B.script bus.old) (B.log bus.old) (B.log bus.new) (spelling frame)
-        (carries_from cycle slot frame.sender (receiver_numbers receivers))) }
+    ensures sent { OnOk result (let entries = map (entry_by cycle slot frame.now.sender (spelling frame.now)) (map (piece_value (spelling frame.now)) pieces.new.items) in
+        AreCarried B.may (B.script bus.old) (B.log bus.old) (B.log bus.new) (spelling frame.now)
+        (carries_from cycle slot frame.now.sender (receiver_numbers receivers)) entries) }
+    ensures some { OnErr result (let entries = map (entry_by cycle slot frame.now.sender (spelling frame.now)) (map (piece_value (spelling frame.now)) pieces.new.items) in
+        AreCarried B.may (B.script bus.old) (B.log bus.old) (B.log bus.new) (spelling frame.now)
+        (take (length entries) (carries_from cycle slot frame.now.sender (receiver_numbers receivers))) entries) }
+    ensures marked { AllByRecursion (IsMarked (spelling frame.now)) pieces.new.items }
 {
-    let sender = sender_of(&frame);
+    let sender = sender_of(frame);
     let numbers = receivers.but(alloc, sender)?;
-    let sent = encode(alloc, &frame)?;
+    let sent = encode(alloc, frame)?;
+    pieces.reserve(numbers.len())?;
     match carry_to_each(
-        alloc,
         bus,
         cycle,
         slot,
         sender,
         numbers.as_slice(),
         sent.as_slice(),
+        pieces,
     ) {
-        Ok(pieces) => Ok(Parcel::new(frame, pieces)),
+        Ok(()) => Ok(()),
         Err(error) => Err(error),
     }
 }
@@ -109,6 +116,17 @@ fn charged_of(parcels: &[Parcel]) -> ChanSet
         others.with(parcel.sender())
     } else {
         others
+    }
+}
+
+/// The number of pieces of these.
+fn pieces_in(parcels: &[Parcel]) -> usize
+    requires { sum_by (λ p. length p.pieces) parcels.now ≤ usize.MAX }
+    ensures { result ≡ sum_by (λ p. length p.pieces) parcels.now }
+{
+    match parcels {
+        [] => 0,
+        [parcel, rest @ ..] => parcel.len() + pieces_in(rest),
     }
 }
 
@@ -154,7 +172,7 @@ impl Traffic {
 
     /// Carries a frame to each receiver but its sender, in ascending order. It is encoded once.
     ///
-    /// For want of memory the first few receivers may have been served, and the traffic is as it was.
+    /// For want of memory the first few receivers may have been served, and the traffic has their entries.
     pub fn send<B: Bus>(
         &mut self,
         bus: &mut B,
@@ -166,17 +184,42 @@ impl Traffic {
         ensures sent { OnOk result (Sends B.may (B.script bus.old) (B.log bus.old) (B.log bus.new) (spelling frame)
             (carries_from self.old.cycle self.old.slot frame.sender (receiver_numbers receivers)) self.old self.new) }
         ensures some { OnErr result (SendsSome B.may (B.script bus.old) (B.log bus.old) (B.log bus.new) (spelling frame)
-            (carries_from self.old.cycle self.old.slot frame.sender (receiver_numbers receivers))) }
-        ensures refused { OnErr result (self.new ≡ self.old) }
+            (carries_from self.old.cycle self.old.slot frame.sender (receiver_numbers receivers)) self.old self.new) }
     {
         self.parcels.reserve(1)?;
-        match carried(self.alloc, bus, self.cycle, self.slot, frame, receivers) {
-            Ok(parcel) => {
-                self.parcels.push_reserved(parcel);
-                Ok(())
-            }
-            Err(error) => Err(error),
-        }
+        let mut pieces = Sequence::new(self.alloc);
+        let served = carried(
+            self.alloc,
+            bus,
+            self.cycle,
+            self.slot,
+            &frame,
+            receivers,
+            &mut pieces,
+        );
+        self.parcels.push_reserved(Parcel::new(frame, pieces));
+        served
+    }
+
+    /// The cycle of the slot.
+    pub fn cycle(&self) -> u32
+        ensures { result ≡ self.now.cycle }
+    {
+        self.cycle
+    }
+
+    pub fn slot(&self) -> Slot
+        ensures { result ≡ self.now.slot }
+    {
+        self.slot
+    }
+
+    /// The number of entries.
+    pub fn len(&self) -> usize
+        requires { length self.now.entries ≤ usize.MAX }
+        ensures { result ≡ length self.now.entries }
+    {
+        pieces_in(self.parcels.as_slice())
     }
 
     /// The senders of whom a piece was not delivered as sent.

@@ -1,7 +1,8 @@
 -- What the nodes send in a slot: each of them its frame to each receiver, in order. This project's own.
-use Rattle.std.specs.Prelude.{◌≡◌, ℕ, true, List, [], ◌∷◌, ◌++◌, filter_map, flat_map, length, take, Option, Some, option_map}
+use Rattle.std.specs.Prelude.{◌≡◌, ℕ, Bool, true, false, List, [], ◌∷◌, ◌++◌, map, filter_map, flat_map, take, Option, Some, None, option_map}
 use Rattle.std.specs.List.{AllZip, AllByRecursion}
 use Rattle.guards_model.specs.declared.Slot.{Slot}
+use Rattle.guards_model.specs.declared.Slot.TheVariants.{Request, Round1, Round2, Round3, Tasks, Vote, Sweep, Final, Switch, Output}
 use Rattle.guards_model.specs.BusRules.{RuleValue}
 use Rattle.guards_model.specs.Channels.{without}
 use Rattle.guards_model.specs.Missions.{MissionValue}
@@ -11,6 +12,7 @@ use Rattle.guards_runs.specs.Due.{Carry}
 use Rattle.guards_nodes.specs.NodeStates.{NodeValue}
 use Rattle.guards_nodes.specs.NodeSteps.{Received}
 use Rattle.guards_world.specs.OwedFrames.{body_of}
+use Rattle.slot_traffic.specs.Pieces.{TrafficValue}
 use Rattle.slot_traffic.specs.Sending.{IsCarryOf}
 use Rattle.world_nodes.specs.NodeLists.{AllReceived}
 
@@ -38,6 +40,26 @@ send_to M c slot received node to = option_map (send_by c slot node to) (body_of
 abbrev pub sends_of : MissionValue → ℕ → Slot → List ℕ → Received → NodeValue → List SendValue
 sends_of M c slot receivers received node = filter_map (send_to M c slot received node) (without receivers (node.channel ∷ []))
 
+-- what a frame is to these receivers, none to its sender
+abbrev pub sends_by : ℕ → Slot → List ℕ → Option FrameValue → List SendValue
+sends_by c slot receivers None = []
+sends_by c slot receivers (Some frame) =
+    map (λ to. record { carry = record { cycle = c; slot = slot; from = frame.sender; to = to }; bytes = spelling frame })
+    (without receivers (frame.sender ∷ []))
+
+-- the frames of the sweep and final slots have a target, and those of the others are the same for every receiver
+abbrev pub has_targets : Slot → Bool
+has_targets Sweep = true
+has_targets Final = true
+has_targets Request = false
+has_targets Round1 = false
+has_targets Round2 = false
+has_targets Round3 = false
+has_targets Tasks = false
+has_targets Vote = false
+has_targets Switch = false
+has_targets Output = false
+
 -- what all nodes send, one after the other
 abbrev pub all_sends : MissionValue → ℕ → Slot → List ℕ → AllReceived → List NodeValue → List SendValue
 all_sends M c slot receivers received nodes = flat_map (λ node. sends_of M c slot receivers (received node.channel) node) nodes
@@ -59,7 +81,15 @@ pub record AreSent (may : List RuleValue → EntryValue → Type 0) (script : Li
   pub each : AllZip IsEntryOf sends now
   pub allowed : AllByRecursion (may script) now
 
--- The first few of these were sent.
-pub record AreSomeSent (may : List RuleValue → EntryValue → Type 0) (script : List RuleValue) (old new : Log) (sends : List SendValue) : Type 0 where
+-- these were sent, and the traffic of the slot grew by their entries
+pub record Sends (may : List RuleValue → EntryValue → Type 0) (script : List RuleValue) (old new : Log)
+    (sends : List SendValue) (before after : TrafficValue) : Type 0 where
   pub now : Log
-  pub sent : AreSent may script old new (take (length now) sends) now
+  pub sent : AreSent may script old new sends now
+  pub traffic : after ≡ record { cycle = before.cycle; slot = before.slot; entries = before.entries ++ now }
+
+-- the same for the first few of them
+pub record SendsSome (may : List RuleValue → EntryValue → Type 0) (script : List RuleValue) (old new : Log)
+    (sends : List SendValue) (before after : TrafficValue) : Type 0 where
+  pub few : ℕ
+  pub sends_few : Sends may script old new (take few sends) before after

@@ -1,0 +1,28 @@
+//! All channels.
+ghost use Rattle.std.specs.Prelude.{◌≡◌, ◌<◌};
+ghost use Rattle.guards_model.specs.Channels.{every_channel};
+
+use guards_base::Chan;
+
+// The channel with this number. (world_nodes keeps the same two for itself.)
+fn channel(number: u8) -> Chan
+    requires { number < 7 }
+    ensures { result ≡ number }
+{
+    Chan::new(number).unwrap()
+}
+
+/// Every channel that there can be, in order.
+pub(crate) fn every_channel() -> [Chan; 7]
+    ensures { result ≡ every_channel }
+{
+    [
+        channel(0),
+        channel(1),
+        channel(2),
+        channel(3),
+        channel(4),
+        channel(5),
+        channel(6),
+    ]
+}
