@@ -13,7 +13,7 @@ fn channel(number: u8) -> Chan
 }
 
 /// Every channel that there can be, in order.
-pub(crate) fn every_channel() -> [Chan; 7]
+pub fn every_channel() -> [Chan; 7]
     ensures { result ≡ every_channel }
 {
     [

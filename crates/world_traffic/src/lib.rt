@@ -5,5 +5,6 @@ mod channels;
 mod delivered;
 mod sending;
 
+pub use channels::every_channel;
 pub use delivered::Delivered;
 pub use sending::send_slot;
