@@ -9,3 +9,10 @@ pub mod Closing
 pub mod Taking
 pub mod AfterCycle
 pub mod Carried
+pub mod Receiving
+pub mod RoundNodes
+pub mod ReceivedWorld
+pub mod FirstRunning
+pub mod Deciding
+pub mod Settling
+pub mod NextSlot

@@ -4,3 +4,4 @@ pub mod Stages
 pub mod Kept
 pub mod Told
 pub mod Restored
+pub mod Settled

@@ -3,6 +3,7 @@
 
 mod ending;
 mod restoring;
+mod rounds;
 mod slots;
 mod world;
 
