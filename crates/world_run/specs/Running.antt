@@ -1,0 +1,138 @@
+-- What running a mission does, by its answer. This project's own.
+use Rattle.std.specs.Prelude.{◌≡◌, ◌<◌, ◌⊎◌, ℕ, ◌-◌, Bool, List, ◌∷◌, ◌++◌, length, min, Option, None, Result, Ok, Err}
+use Rattle.std.specs.Io.KnownBytes.{Appends}
+use Rattle.guards_io.specs.Causes.{Rose}
+use Rattle.guards_model.specs.declared.Slot.{Slot}
+use Rattle.guards_model.specs.BusRules.{RuleValue}
+use Rattle.guards_model.specs.Channels.{ChannelSet}
+use Rattle.guards_model.specs.Missions.{MissionValue}
+use Rattle.guards_model.specs.Network.{EntryValue, Log}
+use Rattle.guards_model.specs.Rounds.{Histories}
+use Rattle.guards_model.specs.Records.{shown}
+use Rattle.guards_model.specs.Texts.{TextValue, Part, RecordValue, StopValue, part_text, text_of, cycle_part, stop_line}
+use Rattle.guards_runs.specs.Cycles.{cycles_before}
+use Rattle.guards_runs.specs.Report.{parts_of}
+use Rattle.guards_world.specs.Worlds.{WorldValue}
+use Rattle.guards_world.specs.WorldCycle.{BusValue}
+use Rattle.ideal_run.specs.Writes.{SinkView, AppendsPart, AppendsFront}
+use Rattle.ideal_run.specs.declared.output.WriteStop.{WriteStop}
+use Rattle.ideal_run.specs.declared.output.WriteStop.TheVariants as write
+use Rattle.icn_world.specs.declared.world.Halt.{Halt}
+use Rattle.icn_world.specs.declared.world.Halt.TheVariants as halt
+use Rattle.run_laws.specs.Runs.{Ran, RanCycles, RanToStop, RanPart, IsBetween, parts_so_far, run_text, with_unfinished}
+use Rattle.world_run.specs.declared.stop.RunStop.{RunStop}
+use Rattle.world_run.specs.declared.stop.RunStop.TheVariants.{Disturbed, WriteFault, NoMemory}
+
+abbrev pub bus_value : Log → List RuleValue → BusValue
+bus_value log script = record { log = log; script = script }
+
+abbrev pub stop_value : ℕ → Slot → ChannelSet → ChannelSet → StopValue
+stop_value cycle slot set active = record { cycle = cycle; slot = slot; set = set; active = active }
+
+-- ---- what is written
+
+-- the part of a cycle, as a text
+unfoldable pub cycle_text : Bool → MissionValue → RecordValue → TextValue
+cycle_text trace M part = part_text (cycle_part trace (shown M.rules.channels M.width (length M.outputs) part))
+
+-- the line of a stop
+unfoldable pub stop_text : StopValue → TextValue
+stop_text stop = stop_line stop
+
+-- What writing a part does: it was written, or the sink failed and a front of it was, or there was no memory for it.
+abbrev pub Puts : SinkView → SinkView → TextValue → Result (Unit {0}) WriteStop → Type 0
+Puts old new part (Ok _) = Appends old.written new.written part × (new.faults ≡ old.faults)
+Puts old new part (Err write.Failed) = AppendsPart old.written new.written part × Rose old.faults new.faults
+Puts old new part (Err write.Memory) = new ≡ old
+
+-- A line was written, or, only where the sink's faults rose, a front of it.
+abbrev pub Refuses : SinkView → SinkView → TextValue → Type 0
+Refuses old new line =
+    (Appends old.written new.written line × (new.faults ≡ old.faults))
+    ⊎ (AppendsPart old.written new.written line × Rose old.faults new.faults)
+
+-- Of these parts in their order the first `whole` were written, and of the next one a front that is not all of it.
+pub record WroteParts (old new : Option (List ℕ)) (parts : List Part) (whole : ℕ) : Type 0 where
+  pub written : List Part
+  pub next : Part
+  pub rest : List Part
+  pub order : parts ≡ written ++ next ∷ rest
+  pub count : length written ≡ whole
+  pub front : TextValue
+  pub tail : TextValue
+  pub cut : part_text next ≡ front ++ tail
+  pub proper : 0 < length tail
+  pub grew : Appends old new (text_of written ++ front)
+
+-- A text with its last line was written, or, only where the sink's faults rose, all but an end of this line.
+abbrev pub EndsWith : SinkView → SinkView → TextValue → TextValue → Type 0
+EndsWith old new before line =
+    (Appends old.written new.written (before ++ line) × (new.faults ≡ old.faults))
+    ⊎ ((front tail : TextValue) × (line ≡ front ++ tail) × (0 < length tail) × Appends old.written new.written (before ++ front)
+    × Rose old.faults new.faults)
+
+-- ---- what a run does
+
+module _ (may : List RuleValue → EntryValue → Type 0) (trace : Bool) (M : MissionValue) where
+  -- All cycles ran, none stopped, and the report was written; where it is traced, by full histories whose copies were sent.
+  abbrev pub RunsWhole : BusValue → BusValue → SinkView → SinkView → Type 0
+  RunsWhole bus bus' out out' =
+      (L : Log) × (histories : Histories) × Ran may M bus bus' L × RanCycles M M.cycles L histories
+      × Appends out.written out'.written (run_text trace M L histories) × (out'.faults ≡ out.faults)
+
+  -- The cycles before the stop ran, and its own up to the end of its slot. The report ends with the stop's line.
+  abbrev pub RunsToStop : StopValue → BusValue → BusValue → SinkView → SinkView → Type 0
+  RunsToStop stop bus bus' out out' =
+      (L : Log) × (histories : Histories) × (before : TextValue) × Ran may M bus bus' L × RanToStop M stop.cycle stop L histories
+      × (run_text trace M L (with_unfinished (M.cycles - stop.cycle) histories) ≡ before ++ stop_line stop)
+      × EndsWith out out' before (stop_line stop)
+
+  -- The sink failed in the part after the first `whole` ones: so many cycles ran as have a part that was begun.
+  abbrev pub RunsUnwritten : BusValue → BusValue → SinkView → SinkView → Type 0
+  RunsUnwritten bus bus' out out' =
+      (L : Log) × (histories : Histories) × (whole : ℕ) × Ran may M bus bus' L × RanCycles M (min whole M.cycles) L histories
+      × WroteParts out.written out'.written (parts_of trace M histories (cycles_before M L (min whole M.cycles)) None) whole
+      × Rose out.faults out'.faults
+
+  -- Memory ran out: some cycles ran, and a front of the next one's entries was carried; a front of the text was written.
+  abbrev pub RunsShort : BusValue → BusValue → SinkView → SinkView → Type 0
+  RunsShort bus bus' out out' =
+      (L : Log) × (histories : Histories) × (n : ℕ) × Ran may M bus bus' L × RanPart M n L histories
+      × AppendsFront out.written out'.written (text_of (parts_so_far trace M histories (cycles_before M L n)))
+      × (out'.faults ≡ out.faults)
+
+  -- What running the mission does, by its answer.
+  abbrev pub Runs : BusValue → BusValue → SinkView → SinkView → Result (Unit {0}) RunStop → Type 0
+  Runs bus bus' out out' (Ok _) = RunsWhole bus bus' out out'
+  Runs bus bus' out out' (Err (Disturbed cycle slot set active)) = RunsToStop (stop_value cycle slot set active) bus bus' out out'
+  Runs bus bus' out out' (Err WriteFault) = RunsUnwritten bus bus' out out'
+  Runs bus bus' out out' (Err NoMemory) = RunsShort bus bus' out out'
+
+  -- Between two cycles of a run that began with this bus and this sink: the head line and the parts of the cycles were written.
+  abbrev pub IsAt : BusValue → SinkView → WorldValue → BusValue → SinkView → Type 0
+  IsAt start begun w bus out =
+      (L : Log) × (histories : Histories) × IsBetween may M start w bus L histories
+      × Appends begun.written out.written (text_of (parts_so_far trace M histories (cycles_before M L w.done)))
+      × (out.faults ≡ begun.faults)
+
+  -- what goes on with the run until n cycles ran does, by its answer
+  abbrev pub GoesTo : BusValue → SinkView → ℕ → WorldValue → BusValue → SinkView → Result (Unit {0}) RunStop → Type 0
+  GoesTo start begun n w bus out (Ok _) = IsAt start begun w bus out × (w.done ≡ n)
+  GoesTo start begun n w bus out (Err stop) = Runs start bus begun out (Err stop)
+
+-- what telling a stop does: its line was written, or there was no memory for it
+abbrev pub TellsStop : StopValue → SinkView → SinkView → RunStop → Type 0
+TellsStop stop old new (Disturbed cycle slot set active) = (stop_value cycle slot set active ≡ stop) × Refuses old new (stop_text stop)
+TellsStop stop old new WriteFault = ⊥
+TellsStop stop old new NoMemory = new ≡ old
+
+-- what telling a halt does
+abbrev pub TellsHalt : Halt → SinkView → SinkView → RunStop → Type 0
+TellsHalt (halt.Disturbed cycle slot set active) old new stop = TellsStop (stop_value cycle slot set active) old new stop
+TellsHalt halt.NoMemory old new stop = (stop ≡ NoMemory) × (new ≡ old)
+
+-- how a run ends where a part was not written
+abbrev pub told_by : Result (Unit {0}) WriteStop → Result (Unit {0}) RunStop
+told_by (Ok done) = Ok done
+told_by (Err write.Failed) = Err WriteFault
+told_by (Err write.Memory) = Err NoMemory

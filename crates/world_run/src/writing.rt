@@ -1,0 +1,147 @@
+//! Writes the text of a run, part by part.
+ghost use Rattle.std.specs.Prelude.{◌≡◌, IfOk};
+ghost use Rattle.ideal_run.specs.Report.{head, last};
+ghost use Rattle.ideal_run.specs.Writes.{sink_view};
+ghost use Rattle.world_run.specs.Running.{Puts, Refuses, TellsStop, cycle_text, stop_text, stop_value};
+
+use crate::stop::RunStop;
+use guards_base::{ChanSet, CycleRecord, Text};
+use guards_io::Sink;
+use guards_model::Slot;
+use ideal_run::{WriteStop, write_all};
+use mission_type::Mission;
+use std::alloc::{AllocError, Global};
+
+/// Writes one part. A part without bytes is not given.
+pub fn put<K: Sink>(out: &mut K, part: &str) -> Result<(), WriteStop>
+    ensures { Puts (sink_view (K.written out.old) (K.faults out.old))
+        (sink_view (K.written out.new) (K.faults out.new)) part.now result }
+{
+    match write_all(out, part.as_bytes()) {
+        Ok(()) => Ok(()),
+        Err(_) => Err(WriteStop::Failed),
+    }
+}
+
+/// Writes a line that ends a call, as far as the sink takes it.
+pub fn refuse<K: Sink>(out: &mut K, line: &str)
+    ensures { Refuses (sink_view (K.written out.old) (K.faults out.old))
+        (sink_view (K.written out.new) (K.faults out.new)) line.now }
+{
+    let _ = write_all(out, line.as_bytes());
+}
+
+#[tactic(auto, unfolding(ideal_run::specs::Report::head))]
+fn head_text(alloc: Global, mission: &Mission) -> Result<Text, AllocError>
+    ensures { IfOk result (λ text. text ≡ head mission.now) }
+{
+    let mut text = Text::new(alloc);
+    report_text::head(alloc, &mut text, mission.rules().channels, mission.cycles())?;
+    Ok(text)
+}
+
+/// Writes the head line.
+pub fn put_head<K: Sink>(alloc: Global, mission: &Mission, out: &mut K) -> Result<(), WriteStop>
+    ensures { Puts (sink_view (K.written out.old) (K.faults out.old))
+        (sink_view (K.written out.new) (K.faults out.new))
+        (head mission.now) result }
+{
+    let Ok(text) = head_text(alloc, mission) else {
+        return Err(WriteStop::Memory);
+    };
+    put(out, text.as_str())
+}
+
+#[tactic(auto, unfolding(crate::specs::Running::cycle_text))]
+fn cycle_text(
+    alloc: Global,
+    mission: &Mission,
+    part: &CycleRecord,
+    trace: bool,
+) -> Result<Text, AllocError>
+    ensures { IfOk result (λ text. text ≡ cycle_text trace mission.now part.now) }
+{
+    mission.know_sizes();
+    let channels = mission.rules().channels;
+    let width = mission.width();
+    let outputs = mission.outputs().len() as u8;
+    let mut text = Text::new(alloc);
+    report_text::write_cycle(alloc, &mut text, part, channels, width, outputs, trace)?;
+    Ok(text)
+}
+
+/// Writes the part of a cycle, with its trace lines where `trace` says so.
+pub fn put_cycle<K: Sink>(
+    alloc: Global,
+    mission: &Mission,
+    part: &CycleRecord,
+    trace: bool,
+    out: &mut K,
+) -> Result<(), WriteStop>
+    ensures { Puts (sink_view (K.written out.old) (K.faults out.old))
+        (sink_view (K.written out.new) (K.faults out.new)) (cycle_text trace mission.now part.now) result }
+{
+    let Ok(text) = cycle_text(alloc, mission, part, trace) else {
+        return Err(WriteStop::Memory);
+    };
+    put(out, text.as_str())
+}
+
+#[tactic(auto, unfolding(ideal_run::specs::Report::last))]
+fn end_text(alloc: Global, mission: &Mission) -> Result<Text, AllocError>
+    ensures { IfOk result (λ text. text ≡ last mission.now) }
+{
+    let mut text = Text::new(alloc);
+    report_text::write_end(alloc, &mut text, mission.cycles())?;
+    Ok(text)
+}
+
+/// Writes the last line of a run that did not stop.
+pub fn put_end<K: Sink>(alloc: Global, mission: &Mission, out: &mut K) -> Result<(), WriteStop>
+    ensures { Puts (sink_view (K.written out.old) (K.faults out.old))
+        (sink_view (K.written out.new) (K.faults out.new)) (last mission.now) result }
+{
+    let Ok(text) = end_text(alloc, mission) else {
+        return Err(WriteStop::Memory);
+    };
+    put(out, text.as_str())
+}
+
+#[tactic(auto, unfolding(crate::specs::Running::stop_text))]
+fn stop_text(
+    alloc: Global,
+    cycle: u32,
+    slot: Slot,
+    set: ChanSet,
+    active: ChanSet,
+) -> Result<Text, AllocError>
+    ensures { IfOk result (λ text. text ≡ stop_text (stop_value cycle slot set active)) }
+{
+    let mut text = Text::new(alloc);
+    report_text::write_stop(alloc, &mut text, cycle, slot, set, active)?;
+    Ok(text)
+}
+
+/// Writes the line of a stop. A sink that fails changes nothing of the answer.
+pub fn tell_stop<K: Sink>(
+    alloc: Global,
+    cycle: u32,
+    slot: Slot,
+    set: ChanSet,
+    active: ChanSet,
+    out: &mut K,
+) -> RunStop
+    ensures { TellsStop (stop_value cycle slot set active) (sink_view (K.written out.old) (K.faults out.old))
+        (sink_view (K.written out.new) (K.faults out.new)) result }
+{
+    let Ok(text) = stop_text(alloc, cycle, slot, set, active) else {
+        return RunStop::NoMemory;
+    };
+    refuse(out, text.as_str());
+    RunStop::Disturbed {
+        cycle,
+        slot,
+        set,
+        active,
+    }
+}
