@@ -26,18 +26,8 @@ use Rattle.world_nodes.specs.NodeLists.{AllReceived}
 use Rattle.world_traffic.specs.SlotSends.{IsEntryOf, all_sends}
 use Rattle.send_laws.proofs.Sending.{sent_whole, sent_few}
 use Rattle.fault_script.specs.declared.disturbance.Disturbance.{Disturbance}
+use Rattle.icn_world.specs.Sent.{AreAllSent, AreFewSent}
 use Rattle.icn_world.specs.Stages.{past_in, facts_in, HaltsIn, MayCarry, HasArrived}
-
--- what each node received in the slots before
-abbrev pub received_in : Log → Slot → WorldValue → AllReceived
-received_in all slot w q = received_through w.mission (past_in w all) (facts_in w all) (slot_index slot) q
-
--- one entry for each frame that is sent in the slot, and for the first few of them
-abbrev pub AreAllSent : Log → Log → Slot → List ℕ → WorldValue → Log → Type 0
-AreAllSent L now slot to w new = AllZip IsEntryOf (all_sends w.mission w.done slot to (received_in (L ++ now) slot w) w.nodes) new
-
-abbrev pub AreFewSent : Log → Log → Slot → List ℕ → ℕ → WorldValue → Log → Type 0
-AreFewSent L now slot to few w new = AllZip IsEntryOf (take few (all_sends w.mission w.done slot to (received_in (L ++ now) slot w) w.nodes)) new
 
 -- the senders are charged of whom one of these was not delivered as sent
 pub record AreCharged (slot : Slot) (new : Log) (w : WorldValue) (before after : Disturbance) : Type 0 where

@@ -16,3 +16,4 @@ pub mod FirstRunning
 pub mod Deciding
 pub mod Settling
 pub mod NextSlot
+pub mod Sent

@@ -5,3 +5,4 @@ pub mod Kept
 pub mod Told
 pub mod Restored
 pub mod Settled
+pub mod Sent

@@ -1,6 +1,7 @@
 //! The world: all channels' nodes, the ledger and the switches, which pass a mission cycle by cycle.
 #![tactic(auto)]
 
+mod carrying;
 mod ending;
 mod restoring;
 mod rounds;

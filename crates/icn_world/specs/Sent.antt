@@ -1,0 +1,42 @@
+-- What the world sends in a slot: the frames of its nodes, or the first few of them.
+use Rattle.std.specs.Prelude.{◌≡◌, ℕ, List, ◌++◌, length, take, Result, Ok, Err}
+use Rattle.std.specs.List.{AllZip}
+use Rattle.guards_model.specs.declared.Slot.{Slot}
+use Rattle.guards_model.specs.Slots.{slot_index}
+use Rattle.guards_model.specs.BusRules.{RuleValue}
+use Rattle.guards_model.specs.Network.{EntryValue, Log}
+use Rattle.guards_model.specs.Rounds.{Steps}
+use Rattle.guards_world.specs.NodeFacts.{received_through}
+use Rattle.guards_world.specs.Worlds.{WorldValue}
+use Rattle.guards_world.specs.WorldCycle.{BusValue, Carries}
+use Rattle.world_laws.specs.Passing.{world_carried}
+use Rattle.slot_traffic.specs.Pieces.{TrafficValue}
+use Rattle.world_nodes.specs.NodeLists.{AllReceived}
+use Rattle.world_traffic.specs.SlotSends.{IsEntryOf, all_sends}
+use Rattle.fault_script.specs.declared.disturbance.Disturbance.{Disturbance}
+use Rattle.icn_world.specs.Stages.{past_in, facts_in, MayCarry}
+
+-- what each node received in the slots before
+abbrev pub received_in : Log → Slot → WorldValue → AllReceived
+received_in all slot w q = received_through w.mission (past_in w all) (facts_in w all) (slot_index slot) q
+
+-- one entry for each frame that is sent in the slot, and for the first few of them
+abbrev pub AreAllSent : Log → Log → Slot → List ℕ → WorldValue → Log → Type 0
+AreAllSent L now slot to w new = AllZip IsEntryOf (all_sends w.mission w.done slot to (received_in (L ++ now) slot w) w.nodes) new
+
+abbrev pub AreFewSent : Log → Log → Slot → List ℕ → ℕ → WorldValue → Log → Type 0
+AreFewSent L now slot to few w new = AllZip IsEntryOf (take few (all_sends w.mission w.done slot to (received_in (L ++ now) slot w) w.nodes)) new
+
+-- by the answer, the entries are those of all frames, and those of the traffic, or those of the first few
+abbrev pub AreSentBy : {E : Type 0} → Slot → List ℕ → Log → Result TrafficValue E → WorldValue → Log → Log → Type 0
+AreSentBy slot to entries (Ok traffic) w L now =
+    (traffic ≡ record { cycle = w.done; slot = slot; entries = entries }) × AreAllSent L now slot to w entries
+AreSentBy slot to entries (Err error) w L now = (few : ℕ) × AreFewSent L now slot to few w entries
+
+-- These entries were carried and counted.
+pub record HasSent {E : Type 0} (may : List RuleValue → EntryValue → Type 0) (slot : Slot) (to : List ℕ) (result : Result TrafficValue E)
+    (old new : WorldValue) (bus bus_after : BusValue) : Type 0 where
+  pub entries : Log
+  pub carries : Carries may bus bus_after entries
+  pub world : new ≡ world_carried (length entries) old
+  pub sent : (L now : Log) (steps : Steps) (d : Disturbance) → MayCarry slot to L now steps old d → AreSentBy slot to entries result old L now
