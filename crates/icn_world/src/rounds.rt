@@ -1,7 +1,8 @@
 //! The first part of a cycle: the requests, the rounds of the exchange, and the decision.
-ghost use Rattle.std.specs.Prelude.{◌≡◌, ◌≤◌, ◌++◌, suc, nat_le, ◌+◌};
-ghost use Rattle.guards_model.specs.declared.Slot.TheVariants.{Round3};
-ghost use Rattle.guards_model.specs.Slots.{slot_index, round_number};
+ghost use Rattle.std.specs.Prelude.{◌≡◌, ◌≤◌, ◌++◌, suc, true, nat_le, ◌+◌};
+ghost use Rattle.guards_model.specs.declared.Slot.{Slot as SlotValue};
+ghost use Rattle.guards_model.specs.declared.Slot.TheVariants.{Request, Round3};
+ghost use Rattle.guards_model.specs.Slots.{slot_index, on_bus, round_number};
 ghost use Rattle.guards_model.specs.Channels.{tolerated_faults};
 ghost use Rattle.guards_model.specs.Network.{Log};
 ghost use Rattle.guards_model.specs.Rounds.{Steps};
@@ -9,11 +10,16 @@ ghost use Rattle.guards_world.specs.InCycle.{InCycle};
 ghost use Rattle.world_steps.specs.Arrivals.{AreArrivals};
 ghost use Rattle.world_traffic.specs.Reading.{got_of};
 ghost use Rattle.icn_world.specs.Kept.{IsKept};
-ghost use Rattle.icn_world.specs.Settled.{nodes_received, AreOfCycle};
+ghost use Rattle.icn_world.specs.Stages.{Inside, Goes, IsAtStart, HasArrived};
+ghost use Rattle.icn_world.specs.Settled.{MayEnter, IsToActive, nodes_received, AreOfCycle, IsDecided, IsSettled};
 
-use crate::world::World;
+use crate::world::{Halt, World};
+use fault_script::Disturbance;
 use guards_base::ChanSet;
 use guards_model::Slot;
+use icn_bus::Bus;
+use slot_traffic::Receivers;
+use std::alloc::Global;
 use world_traffic::Delivered;
 
 // What the rounds of a cycle settle: who is removed, and the targets and the start of the transfer that runs.
@@ -31,6 +37,59 @@ fn has_round(members: ChanSet, round: u8) -> bool
 }
 
 impl World {
+    // Carries a slot to the active channels.
+    fn carry_to_active<B: Bus>(
+        &mut self,
+        alloc: Global,
+        bus: &mut B,
+        slot: Slot,
+        disturbance: &mut Disturbance,
+    ) -> Result<Delivered, Halt>
+        requires on { on_bus slot ≡ true }
+        requires among { IsToActive slot }
+        requires stands { (L : Log) × (now : Log) × (steps : Steps) × Inside slot (slot_index slot) (slot_index slot) L now steps self.old disturbance.old }
+        ensures { Goes B.may (Inside slot (slot_index slot) (slot_index slot)) (HasArrived slot) result self.old self.new disturbance.old disturbance.new
+            (record { log = B.log bus.old; script = B.script bus.old }) (record { log = B.log bus.new; script = B.script bus.new }) }
+    {
+        let members = self.switchboard.on();
+        self.carry(alloc, bus, slot, Receivers::Channels(members), disturbance)
+    }
+
+    // Enters a slot and carries it to the active channels. Answers what arrived.
+    pub(crate) fn pass_slot<B: Bus>(
+        &mut self,
+        alloc: Global,
+        bus: &mut B,
+        slot: Slot,
+        disturbance: &mut Disturbance,
+    ) -> Result<Delivered, Halt>
+        requires on { on_bus slot ≡ true }
+        requires among { IsToActive slot }
+        requires stands { (L : Log) × (now : Log) × (steps : Steps) × MayEnter slot L now steps self.old disturbance.old }
+        ensures { Goes B.may (MayEnter slot) (HasArrived slot) result self.old self.new disturbance.old disturbance.new
+            (record { log = B.log bus.old; script = B.script bus.old }) (record { log = B.log bus.new; script = B.script bus.new }) }
+    {
+        self.enter(slot);
+        self.carry_to_active(alloc, bus, slot, disturbance)
+    }
+
+    // The cycle opens, and the running channels hear who asks to be restored.
+    fn ask<B: Bus>(
+        &mut self,
+        alloc: Global,
+        bus: &mut B,
+        disturbance: &mut Disturbance,
+    ) -> Result<(), Halt>
+        requires { (L : Log) × (now : Log) × (steps : Steps) × IsAtStart L now steps self.old disturbance.old }
+        ensures { Goes B.may IsAtStart (λ _. Inside Request 1 1) result self.old self.new disturbance.old disturbance.new
+            (record { log = B.log bus.old; script = B.script bus.old }) (record { log = B.log bus.new; script = B.script bus.new }) }
+    {
+        self.open(alloc)?;
+        let arrived = self.carry_to_active(alloc, bus, Slot::Request, disturbance)?;
+        self.hear(&arrived);
+        Ok(())
+    }
+
     // The running channels receive what arrived in the slot of a round, where there is such a round.
     fn receive(&mut self, arrived: &Delivered, slot: Slot)
         requires round { 1 ≤ round_number slot }
@@ -47,6 +106,25 @@ impl World {
         if has_round(members, round) {
             self.nodes.receive(arrived, round, members);
         }
+    }
+
+    // One of the first two rounds.
+    fn round<B: Bus>(
+        &mut self,
+        alloc: Global,
+        bus: &mut B,
+        slot: Slot,
+        disturbance: &mut Disturbance,
+    ) -> Result<(), Halt>
+        requires low { 1 ≤ round_number slot }
+        requires high { round_number slot ≤ 2 }
+        requires stands { (L : Log) × (now : Log) × (steps : Steps) × MayEnter slot L now steps self.old disturbance.old }
+        ensures { Goes B.may (MayEnter slot) (λ _. Inside slot (suc (slot_index slot)) (suc (slot_index slot))) result self.old self.new disturbance.old disturbance.new
+            (record { log = B.log bus.old; script = B.script bus.old }) (record { log = B.log bus.new; script = B.script bus.new }) }
+    {
+        let arrived = self.pass_slot(alloc, bus, slot, disturbance)?;
+        self.receive(&arrived, slot);
+        Ok(())
     }
 
     // The running channels decide by what they received, in the last round too. Answers what the first of them settled.
@@ -67,5 +145,39 @@ impl World {
             removed,
             transfer: self.nodes.transfer(),
         }
+    }
+
+    // The last round, and the decision.
+    fn last_round<B: Bus>(
+        &mut self,
+        alloc: Global,
+        bus: &mut B,
+        disturbance: &mut Disturbance,
+    ) -> Result<Settled, Halt>
+        requires { (L : Log) × (now : Log) × (steps : Steps) × MayEnter Round3 L now steps self.old disturbance.old }
+        ensures { Goes B.may (MayEnter Round3) IsDecided result self.old self.new disturbance.old disturbance.new
+            (record { log = B.log bus.old; script = B.script bus.old }) (record { log = B.log bus.new; script = B.script bus.new }) }
+    {
+        let arrived = self.pass_slot(alloc, bus, Slot::Round3, disturbance)?;
+        Ok(self.decide(&arrived))
+    }
+
+    // The first part of a cycle: its opening, the requests, the rounds, the decision, and the tasks slot up to the work.
+    pub(crate) fn settle<B: Bus>(
+        &mut self,
+        alloc: Global,
+        bus: &mut B,
+        disturbance: &mut Disturbance,
+    ) -> Result<Settled, Halt>
+        requires { (L : Log) × (now : Log) × (steps : Steps) × IsAtStart L now steps self.old disturbance.old }
+        ensures { Goes B.may IsAtStart IsSettled result self.old self.new disturbance.old disturbance.new
+            (record { log = B.log bus.old; script = B.script bus.old }) (record { log = B.log bus.new; script = B.script bus.new }) }
+    {
+        self.ask(alloc, bus, disturbance)?;
+        self.round(alloc, bus, Slot::Round1, disturbance)?;
+        self.round(alloc, bus, Slot::Round2, disturbance)?;
+        let settled = self.last_round(alloc, bus, disturbance)?;
+        self.pass_slot(alloc, bus, Slot::Tasks, disturbance)?;
+        Ok(settled)
     }
 }
