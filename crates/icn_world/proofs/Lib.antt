@@ -17,3 +17,6 @@ pub mod Deciding
 pub mod Settling
 pub mod NextSlot
 pub mod Sent
+pub mod SlotPassed
+pub mod Lasting
+pub mod Refilling

@@ -1,6 +1,6 @@
 //! The sweep slot, the final slot and the switch slot: what fills the joining channels and switches off the removed ones.
 ghost use Rattle.std.specs.Prelude.{◌≡◌, ◌<◌, ◌++◌, ℕ, OnOk, IfOk};
-ghost use Rattle.guards_model.specs.declared.Slot.TheVariants.{Sweep};
+ghost use Rattle.guards_model.specs.declared.Slot.TheVariants.{Sweep, Final};
 ghost use Rattle.guards_model.specs.Channels.{by_channel};
 ghost use Rattle.guards_model.specs.Network.{Log, switchboard};
 ghost use Rattle.guards_model.specs.Rounds.{Steps};
@@ -12,10 +12,14 @@ ghost use Rattle.node_rounds.specs.Closing.{closed_value};
 ghost use Rattle.world_steps.specs.Arrivals.{AreArrivals};
 ghost use Rattle.icn_world.specs.Kept.{IsKept};
 
-use crate::world::World;
+use crate::world::{Halt, World};
 use control_state::Closed;
+use fault_script::Disturbance;
 use guards_base::{Chan, ChanSet};
+use guards_model::Slot;
+use icn_bus::Bus;
 use icn_frames::Body;
+use slot_traffic::Receivers;
 use std::alloc::{AllocError, Global};
 use world_nodes::Arrived;
 
@@ -72,5 +76,91 @@ impl World {
         self.nodes.take_sweep(alloc, self.done, members, arrived)?;
         let closed = self.nodes.close(&self.mission, self.done).unwrap();
         Ok(closed)
+    }
+}
+
+impl World {
+    ghost use Rattle.icn_world.specs.Stages.{Goes, Inside};
+    ghost use Rattle.icn_world.specs.Restored.{MayRestore, IsClosed, MayTake, IsTaken, IsSwitched, IsRestored};
+
+    // The sweep slot: the running channels send their copies to the targets, and close the cycle.
+    fn pass_sweep<B: Bus>(
+        &mut self,
+        alloc: Global,
+        bus: &mut B,
+        disturbance: &mut Disturbance,
+        targets: ChanSet,
+    ) -> Result<Closed, Halt>
+        requires { (L : Log) × (now : Log) × (steps : Steps) × MayRestore targets L now steps self.old disturbance.old }
+        ensures { Goes B.may (MayRestore targets) IsClosed result self.old self.new disturbance.old disturbance.new
+            (record { log = B.log bus.old; script = B.script bus.old }) (record { log = B.log bus.new; script = B.script bus.new }) }
+    {
+        self.enter(Slot::Sweep);
+        let to = Receivers::Channels(targets);
+        let arrived = self.carry(alloc, bus, Slot::Sweep, to, disturbance)?;
+        let closed = self.close(alloc, &arrived)?;
+        Ok(closed)
+    }
+
+    // The final slot: those that are declared joined are sent the last blocks. Answers who took a content.
+    fn pass_final<B: Bus>(
+        &mut self,
+        alloc: Global,
+        bus: &mut B,
+        disturbance: &mut Disturbance,
+        joined: ChanSet,
+    ) -> Result<ChanSet, Halt>
+        requires { (L : Log) × (now : Log) × (steps : Steps) × MayTake joined L now steps self.old disturbance.old }
+        ensures { Goes B.may (MayTake joined) IsTaken result self.old self.new disturbance.old disturbance.new
+            (record { log = B.log bus.old; script = B.script bus.old }) (record { log = B.log bus.new; script = B.script bus.new }) }
+    {
+        self.enter(Slot::Final);
+        let to = Receivers::Channels(joined);
+        let arrived = self.carry(alloc, bus, Slot::Final, to, disturbance)?;
+        arrived.fits();
+        let taken = self.take_final(alloc, &arrived)?;
+        Ok(taken)
+    }
+
+    // The switch slot: the running channels send the next active set to the switchboard. Answers what arrived there.
+    fn pass_switch<B: Bus>(
+        &mut self,
+        alloc: Global,
+        bus: &mut B,
+        disturbance: &mut Disturbance,
+    ) -> Result<[Option<ChanSet>; 7], Halt>
+        requires { (L : Log) × (now : Log) × (steps : Steps) × Inside Final 8 8 L now steps self.old disturbance.old }
+        ensures { Goes B.may (Inside Final 8 8) IsSwitched result self.old self.new disturbance.old disturbance.new
+            (record { log = B.log bus.old; script = B.script bus.old }) (record { log = B.log bus.new; script = B.script bus.new }) }
+    {
+        self.enter(Slot::Switch);
+        let arrived = self.carry(alloc, bus, Slot::Switch, Receivers::Switchboard, disturbance)?;
+        let sent = sets_sent(&arrived);
+        Ok(sent)
+    }
+
+    // Passes the sweep, the final and the switch slot, where the running transfer has these targets.
+    pub(crate) fn restore<B: Bus>(
+        &mut self,
+        alloc: Global,
+        bus: &mut B,
+        disturbance: &mut Disturbance,
+        targets: ChanSet,
+    ) -> Result<Restored, Halt>
+        requires { (L : Log) × (now : Log) × (steps : Steps) × MayRestore targets L now steps self.old disturbance.old }
+        ensures { Goes B.may (MayRestore targets) IsRestored result self.old self.new disturbance.old disturbance.new
+            (record { log = B.log bus.old; script = B.script bus.old }) (record { log = B.log bus.new; script = B.script bus.new }) }
+    {
+        let closed = self.pass_sweep(alloc, bus, disturbance, targets)?;
+        let joined = closed.joined;
+        let remaining = closed.remaining;
+        let taken = self.pass_final(alloc, bus, disturbance, joined)?;
+        let sent = self.pass_switch(alloc, bus, disturbance)?;
+        Ok(Restored {
+            joined,
+            remaining,
+            taken,
+            sent,
+        })
     }
 }
