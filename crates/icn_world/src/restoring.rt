@@ -134,7 +134,13 @@ impl World {
             (record { log = B.log bus.old; script = B.script bus.old }) (record { log = B.log bus.new; script = B.script bus.new }) }
     {
         self.enter(Slot::Switch);
-        let arrived = self.carry(alloc, bus, Slot::Switch, Receivers::Switchboard, disturbance)?;
+        let arrived = self.carry(
+            alloc,
+            bus,
+            Slot::Switch,
+            Receivers::Switchboard,
+            disturbance,
+        )?;
         let sent = sets_sent(&arrived);
         Ok(sent)
     }
