@@ -5,3 +5,4 @@ pub mod Endings
 pub mod Exchanges
 pub mod Contents
 pub mod Deciding
+pub mod Traces

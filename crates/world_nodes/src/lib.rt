@@ -14,6 +14,7 @@ mod opening;
 mod requests;
 mod rounds;
 mod votes;
+mod work;
 
 pub use arrived::Arrived;
 pub use nodes::Nodes;
