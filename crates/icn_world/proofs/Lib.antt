@@ -20,3 +20,4 @@ pub mod Sent
 pub mod SlotPassed
 pub mod Lasting
 pub mod Refilling
+pub mod Working

@@ -6,3 +6,4 @@ pub mod Told
 pub mod Restored
 pub mod Settled
 pub mod Sent
+pub mod Work

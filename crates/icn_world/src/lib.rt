@@ -6,6 +6,7 @@ mod ending;
 mod restoring;
 mod rounds;
 mod slots;
+mod work;
 mod world;
 
 pub use world::{Halt, World};

@@ -1,0 +1,37 @@
+//! The work of the tasks slot.
+ghost use Rattle.std.specs.Prelude.{◌≡◌, IfOk};
+ghost use Rattle.guards_model.specs.declared.Slot.TheVariants.{Tasks};
+ghost use Rattle.guards_model.specs.Network.{Log};
+ghost use Rattle.guards_model.specs.Rounds.{Steps};
+ghost use Rattle.guards_world.specs.InCycle.{InCycle};
+ghost use Rattle.icn_world.specs.Kept.{IsKept};
+ghost use Rattle.icn_world.specs.Work.{HasDoneWork};
+
+use crate::world::World;
+use ctx_lock::Gate;
+use guards_base::Traces;
+use native_calls::Calls;
+use std::alloc::{AllocError, Global};
+use std::sync::Wait;
+use std::thread::Threads;
+
+impl World {
+    // The work of the tasks slot: the running channels make their writes and copies. Answers the rounds of those that worked.
+    pub(crate) fn work<C: Calls + Sync, G: Gate, R: Threads + Wait + Sync>(
+        &mut self,
+        rt: &R,
+        alloc: Global,
+        gate: &G,
+        natives: &C,
+    ) -> Result<Traces, AllocError>
+        requires { (L : Log) × (now : Log) × (steps : Steps) × InCycle self.old.mission L now steps Tasks 5 4 self.old }
+        ensures kept { IsKept self.old self.new }
+        ensures worked { IfOk result (λ traces. (made : Steps) × ((L now : Log) (steps : Steps) →
+            InCycle self.old.mission L now steps Tasks 5 4 self.old → HasDoneWork made traces.items L now self.new)) }
+    {
+        let traces = self
+            .nodes
+            .work(rt, alloc, &self.mission, self.done, gate, natives)?;
+        Ok(traces)
+    }
+}
