@@ -1,7 +1,7 @@
 -- When a slot is carried: what arrived, where the run stops there, and what was carried where memory runs out.
 use Rattle.std.proofs.Common.{◌≡◌, ℕ, ◌<◌, true, false, ◌||◌, List, ◌++◌, length, Some, refl, sym, ap, subst, ◌∙◌, arith}
 use Rattle.std.specs.Prelude.{take}
-use Rattle.std.specs.List.{AllZip, list_any}
+use Rattle.std.specs.List.{list_any}
 use Rattle.guards_model.specs.declared.Slot.{Slot}
 use Rattle.guards_model.specs.declared.Slot.TheVariants.{Tasks, Sweep}
 use Rattle.guards_model.specs.Slots.{slot_index}
@@ -15,15 +15,12 @@ use Rattle.guards_runs.specs.Cycles.{cycles_before, cycle_at}
 use Rattle.guards_runs.specs.Disturbed.{is_charge}
 use Rattle.guards_runs.specs.Due.{slot_carries}
 use Rattle.guards_laws.proofs.CycleParts.{active-is}
-use Rattle.guards_world.specs.NodeFacts.{received_through}
 use Rattle.guards_world.specs.Worlds.{WorldValue}
 use Rattle.guards_world.specs.WorldCycle.{AreFull}
 use Rattle.world_laws.specs.Passing.{AreCarried, IsFront, StopsIn, world_carried}
 use Rattle.world_laws.proofs.Passing.{take_all, carries_slot, stops_slot, breaks_slot, alone}
 use Rattle.cycle_laws.specs.Ended.{SlotEnds}
 use Rattle.cycle_laws.proofs.SlotEnding.{slot_ends}
-use Rattle.world_nodes.specs.NodeLists.{AllReceived}
-use Rattle.world_traffic.specs.SlotSends.{IsEntryOf, all_sends}
 use Rattle.send_laws.proofs.Sending.{sent_whole, sent_few}
 use Rattle.fault_script.specs.declared.disturbance.Disturbance.{Disturbance}
 use Rattle.icn_world.specs.Sent.{AreAllSent, AreFewSent}

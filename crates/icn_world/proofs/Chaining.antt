@@ -18,7 +18,7 @@ use Rattle.icn_world.specs.declared.world.Halt.TheVariants.{NoMemory}
 use Rattle.icn_world.specs.Kept.{IsKept}
 use Rattle.icn_world.specs.Stages.{Condition, Reaches, Goes}
 
-carries_on : (may : List RuleValue → EntryValue → Type 0) (b b1 b2 : BusValue) (first second : Log) →
+pub carries_on : (may : List RuleValue → EntryValue → Type 0) (b b1 b2 : BusValue) (first second : Log) →
     Carries may b b1 first → Carries may b1 b2 second → Carries may b b2 (first ++ second)
 carries_on may b b1 b2 first second one two =
     record {
@@ -27,10 +27,10 @@ carries_on may b b1 b2 first second one two =
       each = All-append (may b.script) first second one.each (subst (λ (s : List RuleValue). AllByRecursion (may s) second) one.script two.each);
     }
 
-carries_nothing : (may : List RuleValue → EntryValue → Type 0) (b : BusValue) → Carries may b b []
+pub carries_nothing : (may : List RuleValue → EntryValue → Type 0) (b : BusValue) → Carries may b b []
 carries_nothing may b = record { log = sym (append-nil b.log); script = refl; each = tt }
 
-counts_on : (n one two : ℕ) (first second : Log) → one ≡ n + length first → two ≡ one + length second → two ≡ n + length (first ++ second)
+pub counts_on : (n one two : ℕ) (first second : Log) → one ≡ n + length first → two ≡ one + length second → two ≡ n + length (first ++ second)
 counts_on n one two first second a b = omega (arith, a, b, length-append first second)
 
 -- a part that ended well, and then another

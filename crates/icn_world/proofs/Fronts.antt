@@ -1,5 +1,5 @@
 -- What a cycle carried so far is a front of its due entries.
-use Rattle.std.proofs.Common.{◌≡◌, ℕ, true, List, [], ◌++◌, subst}
+use Rattle.std.proofs.Common.{◌≡◌, ℕ, true, [], ◌++◌, subst}
 use Rattle.std.proofs.lemmas.List.{append-nil}
 use Rattle.guards_model.specs.declared.Slot.{Slot}
 use Rattle.guards_model.specs.Slots.{slot_index, on_bus}

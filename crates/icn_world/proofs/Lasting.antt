@@ -1,9 +1,9 @@
 -- What the sweep and the final slot settled lasts to the end of the cycle.
-use Rattle.std.proofs.Common.{◌≡◌, ℕ, ◌≤◌, ◌<◌, true, List, [], ◌∷◌, ◌++◌, Option, length, refl, sym, ap, subst, ◌∙◌, arith}
+use Rattle.std.proofs.Common.{◌≡◌, ℕ, ◌≤◌, ◌<◌, true, List, [], ◌++◌, Option, length, sym, ap, subst, ◌∙◌}
 use Rattle.std.specs.Prelude.{option_map, is_some}
 use Rattle.std.proofs.lemmas.List.{append_assoc}
 use Rattle.guards_model.specs.declared.Slot.{Slot}
-use Rattle.guards_model.specs.declared.Slot.TheVariants.{Final, Switch}
+use Rattle.guards_model.specs.declared.Slot.TheVariants.{Switch}
 use Rattle.guards_model.specs.Channels.{Channel, ChannelSet, has}
 use Rattle.guards_model.specs.Missions.{MissionValue}
 use Rattle.guards_model.specs.Modes.{is_joining}
@@ -23,7 +23,7 @@ use Rattle.node_laws.proofs.Staying.{weaken}
 use Rattle.cycle_laws.proofs.Keeping.{rounds_later}
 use Rattle.icn_world.proofs.Taking.{taken_lasts}
 use Rattle.icn_world.specs.Restored.{HaveTaken}
-use Rattle.icn_world.specs.Stages.{past_in, facts_in}
+use Rattle.icn_world.specs.Stages.{facts_in}
 
 closed_same : (e x : Cycle) → x.joined ≡ e.joined → x.decision ≡ e.decision → x.remaining ≡ e.remaining → closed_of x ≡ closed_of e
 closed_same e x j d r =

@@ -21,3 +21,6 @@ pub mod SlotPassed
 pub mod Lasting
 pub mod Refilling
 pub mod Working
+pub mod Voting
+pub mod Recording
+pub mod Passing

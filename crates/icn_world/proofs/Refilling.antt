@@ -1,19 +1,16 @@
 -- The sweep, the final and the switch slot, each passed, and the three of them together.
-use Rattle.std.proofs.Common.{◌≡◌, ℕ, suc, ◌<◌, true, List, [], ◌∷◌, ◌++◌, Option, Result, Ok, Err, length, refl, sym, ap, subst, ◌∙◌, arith}
-use Rattle.std.specs.Prelude.{is_some}
+use Rattle.std.proofs.Common.{◌≡◌, List, [], ◌∷◌, ◌++◌, Option, Result, Ok, Err, refl, sym, ap, ◌∙◌, arith}
 use Rattle.std.specs.Result.{IsErrAnd}
 use Rattle.std.proofs.Math.Path.{fun_ext}
-use Rattle.guards_model.specs.declared.Slot.{Slot}
-use Rattle.guards_model.specs.declared.Slot.TheVariants.{Vote, Sweep, Final, Switch, Output}
+use Rattle.guards_model.specs.declared.Slot.TheVariants.{Vote, Sweep, Final, Switch}
 use Rattle.guards_model.specs.BusRules.{RuleValue}
 use Rattle.guards_model.specs.Channels.{Channel, ChannelSet, has, by_channel}
 use Rattle.guards_model.specs.Missions.{MissionValue}
 use Rattle.guards_model.specs.Network.{EntryValue, Log, switchboard}
 use Rattle.guards_model.specs.Rounds.{Steps}
 use Rattle.guards_model.specs.Switchboard.{set_of}
-use Rattle.guards_runs.specs.Cycles.{received_body, cycles_before, cycle_at}
+use Rattle.guards_runs.specs.Cycles.{cycle_at}
 use Rattle.guards_runs.specs.ControlFacts.{closed_of}
-use Rattle.guards_runs.specs.Report.{remaining_in}
 use Rattle.guards_world.specs.Worlds.{WorldValue}
 use Rattle.guards_world.specs.InCycle.{InCycle}
 use Rattle.guards_world.specs.WorldCycle.{BusValue}
@@ -27,8 +24,8 @@ use Rattle.world_traffic.specs.Reading.{got_of}
 use Rattle.icn_world.specs.declared.world.Halt.{Halt}
 use Rattle.icn_world.specs.declared.restoring.Restored.{Restored}
 use Rattle.icn_world.specs.Kept.{IsKept}
-use Rattle.icn_world.specs.Restored.{sets_at, HaveTaken, MayRestore, IsClosed, MayTake, IsTaken, IsSwitched, IsRestored}
-use Rattle.icn_world.specs.Stages.{facts_in, Condition, Inside, MayCarry, HasArrived, Goes, Reaches}
+use Rattle.icn_world.specs.Restored.{HaveTaken, MayRestore, IsClosed, MayTake, IsTaken, IsSwitched, IsRestored}
+use Rattle.icn_world.specs.Stages.{facts_in, Inside, MayCarry, HasArrived, Goes}
 use Rattle.icn_world.proofs.AfterCycle.{whole_takes}
 use Rattle.icn_world.proofs.Chaining.{then, then_step, halted_by, knowing, from}
 use Rattle.icn_world.proofs.Entered.{Enters, may_carry, still_inside, of_kept}

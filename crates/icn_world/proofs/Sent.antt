@@ -23,9 +23,8 @@ use Rattle.world_traffic.specs.SlotSends.{SendValue, IsEntryOf, MaySend, Sends, 
 use Rattle.send_laws.proofs.Sending.{nodes_stand, nodes_may_send, sent_few}
 use Rattle.cycle_laws.proofs.Sizes.{slot_fits, carried_fit}
 use Rattle.fault_script.specs.declared.disturbance.Disturbance.{Disturbance}
-use Rattle.icn_world.specs.declared.world.Halt.{Halt}
 use Rattle.icn_world.specs.declared.world.Halt.TheVariants.{Disturbed, NoMemory}
-use Rattle.icn_world.specs.Sent.{received_in, AreSentBy, HasSent}
+use Rattle.icn_world.specs.Sent.{received_in, HasSent}
 use Rattle.icn_world.specs.Stages.{facts_in, HaltsIn, MayCarry, HasArrived, Goes}
 use Rattle.icn_world.proofs.Carried.{AreCharged, sweep_full, few_carried, all_carried, arrived, stopped}
 

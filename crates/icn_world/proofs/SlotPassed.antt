@@ -1,5 +1,5 @@
 -- A slot passed: entered, carried, and handed over.
-use Rattle.std.proofs.Common.{◌≡◌, ℕ, suc, true, List, ◌++◌, Result, Ok, Err, refl, sym, ap, subst, ◌∙◌}
+use Rattle.std.proofs.Common.{◌≡◌, ℕ, suc, true, List, ◌++◌, Result, Ok, Err, subst}
 use Rattle.std.specs.Result.{IsErrAnd}
 use Rattle.guards_model.specs.declared.Slot.{Slot}
 use Rattle.guards_model.specs.Slots.{slot_index, on_bus}

@@ -1,5 +1,5 @@
 -- The nodes after the work of the tasks slot hold what the facts say by the steps that they made, and tell these steps.
-use Rattle.std.proofs.Common.{◌≡◌, ℕ, zero, suc, ◌+◌, ◌<◌, ◌&&◌, ◌||◌, ◌==◌, Bool, true, false, cond, List, [], ◌∷◌, ◌++◌, Option, Some, None, option_map, unwrap_or, map, filter, filter_map, length, All, refl, sym, ap, subst, ◌∙◌, arith, slice_get}
+use Rattle.std.proofs.Common.{◌≡◌, ℕ, zero, suc, ◌+◌, ◌<◌, ◌||◌, ◌==◌, Bool, true, false, cond, List, [], ◌∷◌, ◌++◌, Option, Some, None, option_map, unwrap_or, map, filter, filter_map, length, All, refl, sym, ap, subst, ◌∙◌}
 use Rattle.std.specs.List.{AllZip, list_all, range_with_len, cons_option}
 use Rattle.std.proofs.lemmas.Bool.{leb-true, eqb-true}
 use Rattle.std.proofs.lemmas.List.{append_assoc, length_push}
@@ -23,7 +23,7 @@ use Rattle.guards_laws.proofs.ControlFacts.{controls_follow}
 use Rattle.guards_laws.proofs.WithinChannels.{active_is_set}
 use Rattle.guards_nodes.specs.NodeStates.{DecidedValue, WorkedValue, NodeValue, StateValue, running, fallen, resting, returning, RunningValue, JoinerValue}
 use Rattle.guards_nodes.specs.NodeSteps.{kept_of, origin_by, after_steps, HasWorked}
-use Rattle.guards_nodes.specs.NodeCalls.{in_state, DoesWork}
+use Rattle.guards_nodes.specs.NodeCalls.{DoesWork}
 use Rattle.guards_world.specs.NodeFacts.{node_with, state_of_mode, running_in, joiner_in, state_in}
 use Rattle.guards_world.specs.Worlds.{WorldValue}
 use Rattle.guards_world.specs.WorldCycle.{AreFull, worked_of}

@@ -7,3 +7,5 @@ pub mod Restored
 pub mod Settled
 pub mod Sent
 pub mod Work
+pub mod Voted
+pub mod Passes

@@ -1,21 +1,18 @@
 -- What a part of a cycle does: from what holds before it to what holds after it, to a stop, or to want of memory.
 -- This project's own.
-use Rattle.std.specs.Prelude.{◌≡◌, ◌<◌, ℕ, suc, ◌+◌, true, List, [], ◌++◌, length, map, Some, None, Result, Ok, Err}
+use Rattle.std.specs.Prelude.{◌≡◌, ◌<◌, ℕ, suc, ◌+◌, true, List, [], ◌++◌, length, Some, None, Result, Ok, Err}
 use Rattle.std.specs.List.{list_any}
 use Rattle.guards_model.specs.declared.Slot.{Slot}
-use Rattle.guards_model.specs.declared.Slot.TheVariants.{Tasks, Vote, Switch}
+use Rattle.guards_model.specs.declared.Slot.TheVariants.{Tasks, Switch}
 use Rattle.guards_model.specs.Slots.{slot_index, on_bus}
-use Rattle.guards_model.specs.Channels.{Channel, ChannelSet, has}
+use Rattle.guards_model.specs.Channels.{Channel, has}
 use Rattle.guards_model.specs.BusRules.{RuleValue}
 use Rattle.guards_model.specs.Network.{EntryValue, Log}
 use Rattle.guards_model.specs.Rounds.{Steps}
-use Rattle.guards_model.specs.Texts.{StopValue, LineValue, TraceValue}
-use Rattle.guards_model.specs.Records.{shown_line, transfer_of_pair}
-use Rattle.guards_model.specs.Modes.{is_joining}
-use Rattle.guards_runs.specs.Cycles.{Cycle, Past, cycles_before, cycle_at, mode_in, is_whole}
+use Rattle.guards_model.specs.Texts.{StopValue}
+use Rattle.guards_runs.specs.Cycles.{Cycle, Past, cycles_before, cycle_at}
 use Rattle.guards_runs.specs.Disturbed.{is_charge, stop_in}
-use Rattle.guards_runs.specs.Due.{receivers, targets_of}
-use Rattle.guards_runs.specs.Report.{line_of, remaining_in, running_in}
+use Rattle.guards_runs.specs.Due.{receivers}
 use Rattle.guards_world.specs.Worlds.{WorldValue, HaltValue, disturbed, no_memory, StandsForWorld}
 use Rattle.guards_world.specs.InCycle.{InCycle}
 use Rattle.guards_world.specs.WorldCycle.{BusValue, Carries, AreFull}

@@ -2,10 +2,13 @@
 #![tactic(auto)]
 
 mod carrying;
+mod cycle;
 mod ending;
+mod record;
 mod restoring;
 mod rounds;
 mod slots;
+mod votes;
 mod work;
 mod world;
 

@@ -103,6 +103,13 @@ impl World {
         &self.mission
     }
 
+    // The channels that are switched on, which within a cycle are the active ones.
+    pub(crate) fn active(&self) -> ChanSet
+        ensures { result ≡ self.now.switches }
+    {
+        self.switchboard.on()
+    }
+
     /// Lends the node of a channel.
     pub fn node(&self, c: Chan) -> &Node
         requires { c < length self.now.nodes }

@@ -1,4 +1,4 @@
-use Rattle.std.proofs.Common.{◌≡◌, refl}
+use Rattle.std.proofs.Common.{refl}
 use Rattle.guards_model.specs.declared.Slot.TheVariants.{Final, Switch}
 use Rattle.icn_world.specs.Restored.{MayTake, IsTaken}
 use Rattle.icn_world.proofs.SlotPassed.{may_be_carried, carry_halts, handing_fails, handed}

@@ -1,4 +1,4 @@
-use Rattle.std.proofs.Common.{◌≡◌, refl}
+use Rattle.std.proofs.Common.{refl}
 use Rattle.guards_model.specs.declared.Slot.TheVariants.{Sweep, Final}
 use Rattle.icn_world.specs.Restored.{MayRestore, IsClosed}
 use Rattle.icn_world.proofs.SlotPassed.{may_be_carried, carry_halts, has_arrived, handing_fails, handed}

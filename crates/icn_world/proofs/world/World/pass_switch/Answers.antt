@@ -1,4 +1,4 @@
-use Rattle.std.proofs.Common.{◌≡◌, [], ◌∷◌}
+use Rattle.std.proofs.Common.{[], ◌∷◌}
 use Rattle.guards_model.specs.declared.Slot.TheVariants.{Final, Switch}
 use Rattle.guards_model.specs.Network.{switchboard}
 use Rattle.icn_world.specs.Stages.{Inside}

@@ -1,4 +1,3 @@
-use Rattle.std.proofs.Common.{◌≡◌}
 use Rattle.icn_world.proofs.Refilling.{taking_halts, switching_halts, all_restored}
 use Rattle.icn_world.proofs.world.World.restore.Goals as goal
 

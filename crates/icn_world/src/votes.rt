@@ -1,0 +1,33 @@
+//! The vote slot.
+ghost use Rattle.guards_model.specs.Network.{Log};
+ghost use Rattle.guards_model.specs.Rounds.{Steps};
+ghost use Rattle.guards_model.specs.declared.Slot.TheVariants.{Tasks};
+
+use crate::world::{Halt, World};
+use fault_script::Disturbance;
+use guards_model::Slot;
+use icn_bus::Bus;
+use std::alloc::Global;
+use world_nodes::Lines;
+
+impl World {
+    ghost use Rattle.icn_world.specs.Stages.{Goes, Inside};
+    ghost use Rattle.icn_world.specs.Voted.{HasVoted};
+
+    // Passes the vote slot, in which all active channels send their output words to each other. Answers the lines of those
+    // that run.
+    pub(crate) fn vote<B: Bus>(
+        &mut self,
+        alloc: Global,
+        bus: &mut B,
+        disturbance: &mut Disturbance,
+    ) -> Result<Lines, Halt>
+        requires { (L : Log) × (now : Log) × (steps : Steps) × Inside Tasks 5 5 L now steps self.old disturbance.old }
+        ensures { Goes B.may (Inside Tasks 5 5) HasVoted result self.old self.new disturbance.old disturbance.new
+            (record { log = B.log bus.old; script = B.script bus.old }) (record { log = B.log bus.new; script = B.script bus.new }) }
+    {
+        let arrived = self.pass_slot(alloc, bus, Slot::Vote, disturbance)?;
+        let lines = self.take_votes(alloc, &arrived)?;
+        Ok(lines)
+    }
+}
