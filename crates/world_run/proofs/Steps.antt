@@ -45,7 +45,7 @@ unfolding cycle_text
 part_is trace M K part r same told =
     ap (λ (k : MissionValue). part_text (cycle_part trace (shown k.rules.channels k.width (length k.outputs) part))) same ∙ ap (λ x. part_text (cycle_part trace x)) told
 
-stop_is : (stop : StopValue) → stop_text stop ≡ stop_line stop
+pub stop_is : (stop : StopValue) → stop_text stop ≡ stop_line stop
 unfolding stop_text
 stop_is stop = refl
 

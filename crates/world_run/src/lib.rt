@@ -1,12 +1,13 @@
 //! Running a mission: cycle by cycle over a bus, with its text written part by part.
 #![tactic(auto)]
 
-mod machine;
 mod running;
 mod stop;
+mod summary;
+mod tally;
 mod writing;
 
-pub use machine::Machine;
 pub use running::run;
 pub use stop::RunStop;
+pub use summary::summarize;
 pub use writing::{put, refuse};

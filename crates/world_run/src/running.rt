@@ -6,19 +6,20 @@ ghost use Rattle.guards_world.specs.WorldCycle.{BusValue, MayCycle};
 ghost use Rattle.ideal_run.specs.Writes.{SinkView, sink_view};
 ghost use Rattle.world_run.specs.Running.{bus_value, told_by, IsAt, Runs, GoesTo, TellsHalt};
 
-use crate::machine::Machine;
 use crate::stop::RunStop;
 use crate::writing::{put_cycle, put_end, put_head, tell_stop};
+use ctx_lock::Gate;
 use guards_io::Sink;
 use icn_bus::Bus;
-use icn_world::Halt;
+use icn_world::{Halt, World};
 use ideal_run::WriteStop;
+use native_calls::Calls;
 use std::alloc::Global;
 use std::sync::Wait;
 use std::thread::Threads;
 
 /// A text that was not written ends a run.
-fn told(written: Result<(), WriteStop>) -> Result<(), RunStop>
+pub fn told(written: Result<(), WriteStop>) -> Result<(), RunStop>
     ensures { result ≡ told_by written }
 {
     match written {
@@ -29,7 +30,7 @@ fn told(written: Result<(), WriteStop>) -> Result<(), RunStop>
 }
 
 /// Tells a halt.
-fn end<K: Sink>(alloc: Global, halt: Halt, out: &mut K) -> RunStop
+pub fn end<K: Sink>(alloc: Global, halt: Halt, out: &mut K) -> RunStop
     ensures { TellsHalt halt (sink_view (K.written out.old) (K.faults out.old)) (sink_view (K.written out.new) (K.faults out.new)) result }
 {
     match halt {
@@ -44,69 +45,75 @@ fn end<K: Sink>(alloc: Global, halt: Halt, out: &mut K) -> RunStop
 }
 
 /// Passes one more cycle, and writes its part.
-fn step<B: Bus, R: Threads + Wait + Sync, W: Machine<B, R>, K: Sink>(
+fn step<B: Bus, G: Gate, C: Calls + Sync, R: Threads + Wait + Sync, K: Sink>(
     rt: &R,
     alloc: Global,
-    machine: &mut W,
+    world: &mut World,
     bus: &mut B,
+    gate: &G,
+    natives: &C,
     out: &mut K,
     trace: bool,
 ) -> Result<(), RunStop>
-    requires { MayCycle (W.world machine.old) (bus_value (B.log bus.old) (B.script bus.old)) }
+    requires { MayCycle world.old (bus_value (B.log bus.old) (B.script bus.old)) }
     ensures { (M : MissionValue) (start : BusValue) (begun : SinkView) →
-        IsAt B.may trace M start begun (W.world machine.old) (bus_value (B.log bus.old) (B.script bus.old)) (sink_view (K.written out.old) (K.faults out.old)) →
-        GoesTo B.may trace M start begun (suc (W.world machine.old).done) (W.world machine.new) (bus_value (B.log bus.new) (B.script bus.new))
+        IsAt B.may trace M start begun world.old (bus_value (B.log bus.old) (B.script bus.old)) (sink_view (K.written out.old) (K.faults out.old)) →
+        GoesTo B.may trace M start begun (suc world.old.done) world.new (bus_value (B.log bus.new) (B.script bus.new))
         (sink_view (K.written out.new) (K.faults out.new)) result }
 {
-    match machine.cycle(rt, bus) {
-        Ok(part) => told(put_cycle(alloc, machine.mission(), &part, trace, out)),
+    match world.cycle(rt, alloc, bus, gate, natives) {
+        Ok(part) => told(put_cycle(alloc, world.mission(), &part, trace, out)),
         Err(halt) => Err(end(alloc, halt, out)),
     }
 }
 
 /// Passes all cycles, and writes their parts.
-fn run_cycles<B: Bus, R: Threads + Wait + Sync, W: Machine<B, R>, K: Sink>(
+fn run_cycles<B: Bus, G: Gate, C: Calls + Sync, R: Threads + Wait + Sync, K: Sink>(
     rt: &R,
     alloc: Global,
-    machine: &mut W,
+    world: &mut World,
     bus: &mut B,
+    gate: &G,
+    natives: &C,
     out: &mut K,
     trace: bool,
 ) -> Result<(), RunStop>
-    requires fresh { (W.world machine.old).done ≡ 0 }
+    requires fresh { world.old.done ≡ 0 }
     requires at { (M : MissionValue) × (start : BusValue) × (begun : SinkView) ×
-        IsAt B.may trace M start begun (W.world machine.old) (bus_value (B.log bus.old) (B.script bus.old)) (sink_view (K.written out.old) (K.faults out.old)) }
+        IsAt B.may trace M start begun world.old (bus_value (B.log bus.old) (B.script bus.old)) (sink_view (K.written out.old) (K.faults out.old)) }
     ensures { (M : MissionValue) (start : BusValue) (begun : SinkView) →
-        IsAt B.may trace M start begun (W.world machine.old) (bus_value (B.log bus.old) (B.script bus.old)) (sink_view (K.written out.old) (K.faults out.old)) →
-        GoesTo B.may trace M start begun M.cycles (W.world machine.new) (bus_value (B.log bus.new) (B.script bus.new))
+        IsAt B.may trace M start begun world.old (bus_value (B.log bus.old) (B.script bus.old)) (sink_view (K.written out.old) (K.faults out.old)) →
+        GoesTo B.may trace M start begun M.cycles world.new (bus_value (B.log bus.new) (B.script bus.new))
         (sink_view (K.written out.new) (K.faults out.new)) result }
 {
-    for cycle in 0..machine.mission().cycles() {
+    for cycle in 0..world.mission().cycles() {
         let _cycle = cycle;
-        step(rt, alloc, machine, bus, out, trace)?;
+        step(rt, alloc, world, bus, gate, natives, out, trace)?;
     }
     Ok(())
 }
 
-/// Runs the machine's mission from its start over a bus that has the mission's rules, and writes the report, or with
+/// Runs the world's mission from its start over a bus that has the mission's rules, and writes the report, or with
 /// `trace` the report with the trace lines: part by part, each cycle's when the cycle is over. The first stop ends it, and
 /// so does a part that is not written.
-pub fn run<B: Bus, R: Threads + Wait + Sync, W: Machine<B, R>, K: Sink>(
+pub fn run<B: Bus, G: Gate, C: Calls + Sync, R: Threads + Wait + Sync, K: Sink>(
     rt: &R,
     alloc: Global,
-    machine: &mut W,
+    world: &mut World,
     bus: &mut B,
+    gate: &G,
+    natives: &C,
     out: &mut K,
     trace: bool,
 ) -> Result<(), RunStop>
-    requires fresh { W.world machine.old ≡ first_world (W.world machine.old).mission }
-    requires mission { IsMission (W.world machine.old).mission }
-    requires loaded { B.script bus.old ≡ bus_rules (W.world machine.old).mission }
-    ensures { Runs B.may trace (W.world machine.old).mission (bus_value (B.log bus.old) (B.script bus.old))
+    requires fresh { world.old ≡ first_world world.old.mission }
+    requires mission { IsMission world.old.mission }
+    requires loaded { B.script bus.old ≡ bus_rules world.old.mission }
+    ensures { Runs B.may trace world.old.mission (bus_value (B.log bus.old) (B.script bus.old))
         (bus_value (B.log bus.new) (B.script bus.new)) (sink_view (K.written out.old) (K.faults out.old))
         (sink_view (K.written out.new) (K.faults out.new)) result }
 {
-    told(put_head(alloc, machine.mission(), out))?;
-    run_cycles(rt, alloc, machine, bus, out, trace)?;
-    told(put_end(alloc, machine.mission(), out))
+    told(put_head(alloc, world.mission(), out))?;
+    run_cycles(rt, alloc, world, bus, gate, natives, out, trace)?;
+    told(put_end(alloc, world.mission(), out))
 }

@@ -10,7 +10,7 @@ use Rattle.world_run.proofs.running.run.Goals as goal
 pub returns-in_err-told : goal.returns-in_err-told
 returns-in_err-told g c =
     let p = err_from_is_err_and c.from_residual.result c.from_residual.ensures.1 in
-    let M = (g.W.Machine.world c.args.machine.now).mission in
+    let M = c.args.world.now.mission in
     let bus = bus_value (g.B.Bus.log c.args.bus.now) (g.B.Bus.script c.args.bus.now) in
     let out = sink_view (g.K.Sink.written c.args.out.now) (g.K.Sink.faults c.args.out.now) in
     let out' = sink_view (g.K.Sink.written c.put_head.new.out) (g.K.Sink.faults c.put_head.new.out) in
@@ -20,7 +20,7 @@ returns-in_err-told g c =
 
 pub run_cycles-requires-clause-at : goal.run_cycles-requires-clause-at
 run_cycles-requires-clause-at g c κs within =
-    let M = (g.W.Machine.world c.args.machine.now).mission in
+    let M = c.args.world.now.mission in
     let bus = bus_value (g.B.Bus.log c.args.bus.now) (g.B.Bus.script c.args.bus.now) in
     let out = sink_view (g.K.Sink.written c.args.out.now) (g.K.Sink.faults c.args.out.now) in
     let out' = sink_view (g.K.Sink.written c.put_head.new.out) (g.K.Sink.faults c.put_head.new.out) in
@@ -32,7 +32,7 @@ run_cycles-requires-clause-at g c κs within =
 pub returns-in_err-run_cycles : goal.returns-in_err-run_cycles
 returns-in_err-run_cycles g c =
     let p = err_from_is_err_and c.from_residual-in_err-run_cycles.result c.from_residual-in_err-run_cycles.ensures.1 in
-    let M = (g.W.Machine.world c.args.machine.now).mission in
+    let M = c.args.world.now.mission in
     let bus = bus_value (g.B.Bus.log c.args.bus.now) (g.B.Bus.script c.args.bus.now) in
     let out = sink_view (g.K.Sink.written c.args.out.now) (g.K.Sink.faults c.args.out.now) in
     let out' = sink_view (g.K.Sink.written c.put_head.new.out) (g.K.Sink.faults c.put_head.new.out) in
@@ -44,7 +44,7 @@ returns-in_err-run_cycles g c =
 
 pub returns : goal.returns
 returns g c =
-    let M = (g.W.Machine.world c.args.machine.now).mission in
+    let M = c.args.world.now.mission in
     let bus = bus_value (g.B.Bus.log c.args.bus.now) (g.B.Bus.script c.args.bus.now) in
     let out = sink_view (g.K.Sink.written c.args.out.now) (g.K.Sink.faults c.args.out.now) in
     let out' = sink_view (g.K.Sink.written c.put_head.new.out) (g.K.Sink.faults c.put_head.new.out) in
@@ -53,7 +53,7 @@ returns g c =
     let begun = subst (λ r. GoesTo g.B.Bus.may c.args.trace M bus out 0 (first_world M) bus out' r) (sym c.in_ok-told.ensures) done in
     let at = subst (λ (w : WorldValue). IsAt g.B.Bus.may c.args.trace M bus out w bus out') (sym c.requires.fresh) begun.0 in
     let (ran, all) = c.in_ok-run_cycles.ensures M bus out at in
-    let w = g.W.Machine.world c.run_cycles.new.machine in
+    let w = c.run_cycles.new.world in
     let after = bus_value (g.B.Bus.log c.run_cycles.new.bus) (g.B.Bus.script c.run_cycles.new.bus) in
     let before = sink_view (g.K.Sink.written c.run_cycles.new.out) (g.K.Sink.faults c.run_cycles.new.out) in
     let last_out = sink_view (g.K.Sink.written c.put_end.new.out) (g.K.Sink.faults c.put_end.new.out) in

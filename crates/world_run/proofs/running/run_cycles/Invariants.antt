@@ -9,14 +9,14 @@ use Rattle.world_run.proofs.running.run_cycles.Given as goal
 abbrev pub invariant-loop-cycle : goal.invariant-loop-cycle
 invariant-loop-cycle g l =
     let at : MissionValue → BusValue → SinkView → Type 0 = λ M start begun.
-    IsAt g.B.Bus.may l.trace M start begun (g.W.Machine.world l.machine) (bus_value (g.B.Bus.log l.bus) (g.B.Bus.script l.bus))
+    IsAt g.B.Bus.may l.trace M start begun l.world (bus_value (g.B.Bus.log l.bus) (g.B.Bus.script l.bus))
     (sink_view (g.K.Sink.written l.out) (g.K.Sink.faults l.out)) in
     let before : MissionValue → BusValue → SinkView → Type 0 = λ M start begun.
-    IsAt g.B.Bus.may l.trace M start begun (g.W.Machine.world l.fn.machine) (bus_value (g.B.Bus.log l.fn.bus) (g.B.Bus.script l.fn.bus))
+    IsAt g.B.Bus.may l.trace M start begun l.fn.world (bus_value (g.B.Bus.log l.fn.bus) (g.B.Bus.script l.fn.bus))
     (sink_view (g.K.Sink.written l.fn.out) (g.K.Sink.faults l.fn.out)) in
     record {
-      done : (g.W.Machine.world l.machine).done ≡ l.cycle;
-      kept : (g.W.Machine.world l.machine).mission ≡ (g.W.Machine.world l.fn.machine).mission;
+      done : l.world.done ≡ l.cycle;
+      kept : l.world.mission ≡ l.fn.world.mission;
       some : (M : MissionValue) × (start : BusValue) × (begun : SinkView) × at M start begun;
       each : (M : MissionValue) (start : BusValue) (begun : SinkView) → before M start begun → at M start begun;
     }

@@ -9,8 +9,8 @@ use Rattle.world_run.proofs.running.step.Goals as goal
 pub returns-in-Ok : goal.returns-in-Ok
 returns-in-Ok g c =
     λ M start begun at.
-    let w = g.W.Machine.world c.args.machine.now in
-    let new = g.W.Machine.world c.cycle.new.self in
+    let w = c.args.world.now in
+    let new = c.cycle.new.self in
     let bus = bus_value (g.B.Bus.log c.args.bus.now) (g.B.Bus.script c.args.bus.now) in
     let after = bus_value (g.B.Bus.log c.cycle.new.bus) (g.B.Bus.script c.cycle.new.bus) in
     let out = sink_view (g.K.Sink.written c.args.out.now) (g.K.Sink.faults c.args.out.now) in
@@ -24,8 +24,8 @@ returns-in-Ok g c =
 pub returns-in-Err : goal.returns-in-Err
 returns-in-Err g c =
     λ M start begun at.
-    let w = g.W.Machine.world c.args.machine.now in
-    let new = g.W.Machine.world c.cycle.new.self in
+    let w = c.args.world.now in
+    let new = c.cycle.new.self in
     let bus = bus_value (g.B.Bus.log c.args.bus.now) (g.B.Bus.script c.args.bus.now) in
     let after = bus_value (g.B.Bus.log c.cycle.new.bus) (g.B.Bus.script c.cycle.new.bus) in
     let out = sink_view (g.K.Sink.written c.args.out.now) (g.K.Sink.faults c.args.out.now) in
