@@ -6,3 +6,4 @@ pub mod Exchanges
 pub mod Contents
 pub mod Deciding
 pub mod Traces
+pub mod Crossing

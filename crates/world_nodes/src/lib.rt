@@ -2,6 +2,7 @@
 #![tactic(auto)]
 
 mod arrived;
+mod beside;
 mod channels;
 mod closing;
 mod decisions;

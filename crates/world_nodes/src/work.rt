@@ -1,10 +1,12 @@
-//! The work of the tasks slot.
+//! The work of the tasks slot: all nodes at the same time.
 ghost use Rattle.std.specs.Prelude.{◌≡◌, ◌++◌, length, filter_map, All, OnOk, IfOk};
 ghost use Rattle.std.specs.List.{AllZip};
 ghost use Rattle.std.specs.Option.{option_to_list};
+ghost use Rattle.std.specs.Thread.{IsSync};
 ghost use Rattle.world_nodes.specs.NodeLists.{HasDecision};
 ghost use Rattle.world_nodes.specs.NodeWork.{WorksOrStays, trace_of};
 
+use crate::beside::each_beside;
 use crate::nodes::Nodes;
 use channel_node::Node;
 use ctx_lock::Gate;
@@ -12,6 +14,7 @@ use guards_base::{Bytes, Mode, TraceLine, Traces};
 use mission_type::Mission;
 use native_calls::Calls;
 use std::alloc::{AllocError, Global};
+use std::mem;
 use std::sync::Wait;
 use std::thread::Threads;
 
@@ -19,38 +22,20 @@ use std::thread::Threads;
 fn work_one<C: Calls + Sync, G: Gate, R: Threads + Wait + Sync>(
     rt: &R,
     alloc: Global,
-    node: &mut Node,
+    mut node: Node,
     mission: &Mission,
     cycle: u32,
     gate: &G,
     natives: &C,
-) -> Result<(), AllocError>
-    requires { HasDecision mission.now node.old }
-    ensures { OnOk result (WorksOrStays mission.now cycle node.old node.new) }
+) -> (Node, Result<(), AllocError>)
+    requires { HasDecision mission.now node }
+    ensures { OnOk result.1 (WorksOrStays mission.now cycle node result.0) }
 {
-    match node.mode() {
-        Mode::Up => node.work(rt, alloc, mission, cycle, gate, natives),
-        Mode::Down | Mode::Waiting | Mode::Joining => Ok(()),
+    if node.mode() != Mode::Up {
+        return (node, Ok(()));
     }
-}
-
-fn work_each<C: Calls + Sync, G: Gate, R: Threads + Wait + Sync>(
-    rt: &R,
-    alloc: Global,
-    nodes: &mut [Node],
-    mission: &Mission,
-    cycle: u32,
-    gate: &G,
-    natives: &C,
-) -> Result<(), AllocError>
-    requires { All (HasDecision mission.now) nodes.old }
-    ensures worked { OnOk result (AllZip (WorksOrStays mission.now cycle) nodes.old nodes.new) }
-{
-    if let Some((node, rest)) = nodes.split_first_mut() {
-        work_one(rt, alloc, node, mission, cycle, gate, natives)?;
-        work_each(rt, alloc, rest, mission, cycle, gate, natives)?;
-    }
-    Ok(())
+    let worked = node.work(rt, alloc, mission, cycle, gate, natives);
+    (node, worked)
 }
 
 // The round of a node, where it has worked.
@@ -89,8 +74,10 @@ fn trace_each(alloc: Global, traces: &mut Traces, nodes: &[Node]) -> Result<(), 
 }
 
 impl Nodes {
-    /// The running nodes, which have decided, make the writes and the copies of the cycle, each by two workers. Answers the
-    /// round of each, in order. For want of memory nothing is known of the nodes but how many there are. It may wait.
+    /// The running nodes, which have decided, make the writes and the copies of the cycle, all at the same time: each in a
+    /// thread of its own, by two workers. Answers the round of each, in order. For want of memory nothing is known of the
+    /// nodes but how many there are. It may wait.
+    #[tactic(auto, using(crate::proofs::Crossing::mission_shares))]
     pub fn work<C: Calls + Sync, G: Gate, R: Threads + Wait + Sync>(
         &mut self,
         rt: &R,
@@ -105,8 +92,18 @@ impl Nodes {
         ensures traces { IfOk result (λ traces. traces.items ≡ filter_map trace_of self.new) }
         ensures count { length self.new ≡ length self.old }
     {
-        let list = self.list.as_mut_slice();
-        work_each(rt, alloc, list, mission, cycle, gate, natives)?;
+        let list = mem::replace(&mut self.list, Vec::new(alloc));
+        let (list, worked) = each_beside(
+            rt,
+            list,
+            &|node: Node| -> (Node, Result<(), AllocError>)
+                requires sync { IsSync R.row × IsSync C.row }
+                requires decided { HasDecision mission.now node }
+                ensures { OnOk result.1 (WorksOrStays mission.entry.now cycle node result.0) }
+            { work_one(rt, alloc, node, mission, cycle, gate, natives) },
+        );
+        self.list = list;
+        worked?;
         let mut traces = Traces::new(alloc);
         trace_each(alloc, &mut traces, self.list.as_slice())?;
         Ok(traces)
