@@ -2,4 +2,20 @@
 #![tactic(auto)]
 
 #[cfg(test)]
+mod alone;
+#[cfg(test)]
+mod cycle;
+#[cfg(test)]
+mod joining;
+#[cfg(test)]
+mod moments;
+#[cfg(test)]
+mod ready;
+#[cfg(test)]
+mod seen;
+#[cfg(test)]
+mod small;
+#[cfg(test)]
 mod tests;
+#[cfg(test)]
+mod told;
