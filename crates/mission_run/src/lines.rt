@@ -1,6 +1,6 @@
 //! The lines of refusals.
 ghost use Rattle.std.specs.Prelude.{◌≡◌, string_bytes, IfOk};
-ghost use Rattle.mission_run.specs.TopCall.{cause_name, long_line, mission_line, place_text, read_line, usage_line};
+ghost use Rattle.mission_run.specs.Lines.{cause_name, long_line, mission_line, place_text, read_line, usage_line};
 
 use mission_checks::{Cause, Why};
 use std::alloc::{AllocError, Global};
@@ -31,7 +31,7 @@ fn place_text(alloc: Global, at: Option<u16>) -> Result<String, AllocError>
 }
 
 /// The line of bytes that are no mission.
-#[tactic(auto, unfolding(crate::specs::TopCall::mission_line))]
+#[tactic(auto, unfolding(crate::specs::Lines::mission_line))]
 pub fn mission_line(alloc: Global, why: &Why) -> Result<String, AllocError>
     ensures { IfOk result (λ line. string_bytes line ≡ mission_line why.now) }
 {
@@ -42,7 +42,7 @@ pub fn mission_line(alloc: Global, why: &Why) -> Result<String, AllocError>
 }
 
 /// The line of wrong words.
-#[tactic(auto, unfolding(crate::specs::TopCall::usage_line))]
+#[tactic(auto, unfolding(crate::specs::Lines::usage_line))]
 pub fn usage_line() -> &'static str
     ensures { result.now ≡ usage_line }
 {
@@ -50,7 +50,7 @@ pub fn usage_line() -> &'static str
 }
 
 /// The line of a source that failed.
-#[tactic(auto, unfolding(crate::specs::TopCall::read_line))]
+#[tactic(auto, unfolding(crate::specs::Lines::read_line))]
 pub fn read_line() -> &'static str
     ensures { result.now ≡ read_line }
 {
@@ -58,7 +58,7 @@ pub fn read_line() -> &'static str
 }
 
 /// The line of too many bytes.
-#[tactic(auto, unfolding(crate::specs::TopCall::long_line))]
+#[tactic(auto, unfolding(crate::specs::Lines::long_line))]
 pub fn long_line() -> &'static str
     ensures { result.now ≡ long_line }
 {

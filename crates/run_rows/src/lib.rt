@@ -5,19 +5,32 @@ ghost use Rattle.std.specs.Prelude.{◌≡◌};
 ghost use Rattle.guards_model.specs.declared.Code.TheVariants as codes;
 ghost use Rattle.guards_model.specs.Natives.{native};
 
+use ctx_lock::OpenGate;
 use guards_base::Words;
 use guards_io::{MemSink, MemSource};
+use icn_bus::ScriptBus;
 use mission_run::{Status, guards};
 use native_calls::{Code, Native, Natives, Operation, middle, ramp, saturated};
 use std::alloc::Global;
+use std::sync::Wait;
+use std::thread::Threads;
 
-/// Does what the words say, with the operations of the task language.
-pub fn answer(alloc: Global, words: &Words, src: &mut MemSource, out: &mut MemSink) -> Status {
+/// Does what the words say over a scripted bus, with the open gate and the operations of the task language.
+pub fn answer<R: Threads + Wait + Sync>(
+    rt: &R,
+    alloc: Global,
+    words: &Words,
+    src: &mut MemSource,
+    out: &mut MemSink,
+    bus: &mut ScriptBus,
+) -> Status {
     answer_by(
+        rt,
         alloc,
         words,
         src,
         out,
+        bus,
         |a: i64, b: i64, c: i64| -> i64
             ensures { result ≡ native Code.Sat a b c }
         { saturated(a, b, c) },
@@ -31,11 +44,18 @@ pub fn answer(alloc: Global, words: &Words, src: &mut MemSource, out: &mut MemSi
 }
 
 /// Keeps the closures beside their facts.
-fn answer_by<X: Operation + Sync, Y: Operation + Sync, Z: Operation + Sync>(
+fn answer_by<
+    R: Threads + Wait + Sync,
+    X: Operation + Sync,
+    Y: Operation + Sync,
+    Z: Operation + Sync,
+>(
+    rt: &R,
     alloc: Global,
     words: &Words,
     src: &mut MemSource,
     out: &mut MemSink,
+    bus: &mut ScriptBus,
     sat: X,
     mid: Y,
     ramp: Z,
@@ -47,7 +67,8 @@ fn answer_by<X: Operation + Sync, Y: Operation + Sync, Z: Operation + Sync>(
     let sat = Native::new(Code::Sat, sat);
     let mid = Native::new(Code::Mid, mid);
     let ramp = Native::new(Code::Ramp, ramp);
-    guards(alloc, words, src, out, &Natives::new(sat, mid, ramp))
+    let natives = Natives::new(sat, mid, ramp);
+    guards(rt, alloc, words, src, out, bus, &OpenGate, &natives)
 }
 
 #[cfg(test)]

@@ -1,10 +1,13 @@
 use crate::answer;
 use guards_base::{Bytes, Numbers, Text, Words};
 use guards_io::{MemSink, MemSource};
+use icn_bus::ScriptBus;
 use mission_run::LIMIT;
 use std::alloc::{AllocError, Global};
 use std::process::Abort;
+use std::sync::Wait;
 use std::test::Fail;
+use std::thread::Threads;
 
 const MISSION: &str = "outputs = [\"b0.0\"]
 table = [[\"sum\"]]
@@ -158,7 +161,8 @@ end removed - joined - remaining -
 
 // The exit status for words, which are parted by spaces, and some bytes, and the sink. Source and sink give and take
 // `step` bytes a call.
-fn answered(
+fn answered<R: Threads + Wait + Sync>(
+    rt: &R,
     alloc: Global,
     line: &str,
     bytes: &[u8],
@@ -175,7 +179,8 @@ fn answered(
     let mut src = MemSource::new(bytes, step, Numbers::from_slice(alloc, failed_reads)?);
     let failing = Numbers::from_slice(alloc, failed_writes)?;
     let mut out = MemSink::new(alloc, 1_048_576, step, failing)?;
-    let status = answer(alloc, &words, &mut src, &mut out);
+    let mut bus = ScriptBus::empty(alloc);
+    let status = answer(rt, alloc, &words, &mut src, &mut out, &mut bus);
     Ok((status.code(), out))
 }
 
@@ -215,7 +220,7 @@ fn each_status_has_its_text(rt: HostRuntime) -> Result<(), Fail> {
             begun.as_str(),
         ),
     ] {
-        let (code_of, out) = answered(alloc, word, bytes.as_bytes(), step, reads, writes)?;
+        let (code_of, out) = answered(&rt, alloc, word, bytes.as_bytes(), step, reads, writes)?;
         assert_eq!(rt; code_of, code, "{word} by {step}");
         assert_eq!(rt; out.bytes(), text.as_bytes());
     }
@@ -237,7 +242,7 @@ fn a_mission_has_at_most_so_many_bytes(rt: HostRuntime) -> Result<(), Fail> {
     let alloc = rt.alloc();
     for (len, code) in [(LIMIT, 0), (LIMIT + 1, 4)] {
         let bytes = padded(alloc, len)?;
-        let (code_of, _) = answered(alloc, "run", bytes.as_slice(), 100_000, &[], &[])?;
+        let (code_of, _) = answered(&rt, alloc, "run", bytes.as_slice(), 100_000, &[], &[])?;
         assert_eq!(rt; code_of, code);
     }
     Ok(())
@@ -269,13 +274,13 @@ fn report(alloc: Global, channels: u8, cycles: &[(&str, &str)]) -> Result<String
 
 // The mission runs to its end, and these are the inputs and votes of its cycles.
 fn runs(
-    rt: &impl Abort,
+    rt: &(impl Abort + Threads + Wait + Sync),
     alloc: Global,
     mission: &str,
     channels: u8,
     cycles: &[(&str, &str)],
 ) -> Result<(), Fail> {
-    let (code_of, out) = answered(alloc, "run", mission.as_bytes(), 100_000, &[], &[])?;
+    let (code_of, out) = answered(rt, alloc, "run", mission.as_bytes(), 100_000, &[], &[])?;
     let wanted = report(alloc, channels, cycles)?;
     assert_eq!(rt; code_of, 0);
     assert_eq!(rt; out.bytes(), wanted.as_bytes());
@@ -378,7 +383,15 @@ fn greatest(alloc: Global) -> Result<String, AllocError> {
 fn the_greatest_sizes_run(rt: HostRuntime) -> Result<(), Fail> {
     let alloc = rt.alloc();
     let mission = greatest(alloc)?;
-    let (code_of, out) = answered(alloc, "run", mission.as_str().as_bytes(), 100_000, &[], &[])?;
+    let (code_of, out) = answered(
+        &rt,
+        alloc,
+        "run",
+        mission.as_str().as_bytes(),
+        100_000,
+        &[],
+        &[],
+    )?;
     assert_eq!(rt; code_of, 0);
     // Row 0 runs in cycles 0, 16 and 32, row 15 in cycles 15 and 31.
     let last =
@@ -390,14 +403,10 @@ fn the_greatest_sizes_run(rt: HostRuntime) -> Result<(), Fail> {
 #[test]
 fn what_cannot_run_is_refused(rt: HostRuntime) -> Result<(), Fail> {
     let alloc = rt.alloc();
-    let faulty = format!(in alloc;
-        "{MISSION}[[fault]]\nkind = \"restart\"\ncycle = 0\nchannel = 1\n"
-    )?;
     let unknown = MISSION.replace(alloc, "[[\"sum\"]]", "[[\"add\"]]")?;
     let eight = MISSION.replace(alloc, "channels = 4", "channels = 8")?;
     let broken = MISSION.replace(alloc, "b0.0 + in0", "b0.0 +")?;
     for (mission, line) in [
-        (faulty.as_str(), "mission: unbuilt fault\n"),
         (unknown.as_str(), "mission: unknown table[0][0]\n"),
         (eight.as_str(), "mission: out-of-range core.channels\n"),
         (
@@ -405,7 +414,7 @@ fn what_cannot_run_is_refused(rt: HostRuntime) -> Result<(), Fail> {
             "mission: bad-expr task[0].writes[0].w0 at 6\n",
         ),
     ] {
-        let (code_of, out) = answered(alloc, "run", mission.as_bytes(), 100_000, &[], &[])?;
+        let (code_of, out) = answered(&rt, alloc, "run", mission.as_bytes(), 100_000, &[], &[])?;
         assert_eq!(rt; code_of, 3);
         assert_eq!(rt; out.bytes(), line.as_bytes());
     }
@@ -425,7 +434,7 @@ fn missions_are_checked(rt: HostRuntime) -> Result<(), Fail> {
         (SEVEN, 0, CHECKED_SEVEN),
         ("", 3, "mission: missing core\n"),
     ] {
-        let (code_of, out) = answered(alloc, "check", mission.as_bytes(), 7, &[], &[])?;
+        let (code_of, out) = answered(&rt, alloc, "check", mission.as_bytes(), 7, &[], &[])?;
         assert_eq!(rt; code_of, code);
         assert_eq!(rt; out.bytes(), text.as_bytes());
     }
@@ -450,9 +459,42 @@ fn other_words_are_no_command(rt: HostRuntime) -> Result<(), Fail> {
         "demo 18446744073709551616",
         "demo -- 1",
     ] {
-        let (code_of, out) = answered(alloc, line, MISSION.as_bytes(), 100_000, &[], &[])?;
+        let (code_of, out) = answered(&rt, alloc, line, MISSION.as_bytes(), 100_000, &[], &[])?;
         assert_eq!(rt; code_of, 2, "{line}");
         assert_eq!(rt; out.bytes(), USAGE.as_bytes());
+    }
+    Ok(())
+}
+
+// What the parts of a run tell: a run is traced, one stops before its first cycle's text, and a channel that is restarted
+// while it is up changes nothing.
+#[test]
+fn a_run_is_traced_and_stops(rt: HostRuntime) -> Result<(), Fail> {
+    let alloc = rt.alloc();
+    let traces = "trace 0 T\ntrace 1 T\ntrace 2 T\ntrace 3 T\nend ";
+    let first = FIRST.replace(alloc, "end ", traces)?;
+    let second = SECOND.replace(alloc, "end ", traces)?;
+    let traced = format!(in alloc; "{HEAD}{first}{second}done 2\n")?;
+    let plain = format!(in alloc; "{HEAD}{FIRST}{SECOND}done 2\n")?;
+    let restarted = format!(in alloc;
+        "{MISSION}[[fault]]\nkind = \"restart\"\ncycle = 0\nchannel = 1\n"
+    )?;
+    let lost = format!(in alloc;
+        "{MISSION}[[fault]]\nkind = \"lose\"\ncycle = 0\nslot = \"vote\"\nfrom = 2\nto = 0\n"
+    )?;
+    let three = lost
+        .replace(alloc, "[5], [5], [5], [5]", "[5], [5], [5]")?
+        .replace(alloc, "channels = 4", "channels = 3")?;
+    let stop = "guards channels 3 cycles 2\nstop cycle 0 slot vote disturbed 2 active 0,1,2\n";
+    for (line, mission, code, text) in [
+        ("run --trace", MISSION, 0, traced.as_str()),
+        ("run", restarted.as_str(), 0, plain.as_str()),
+        ("run", lost.as_str(), 0, plain.as_str()),
+        ("run", three.as_str(), 7, stop),
+    ] {
+        let (code_of, out) = answered(&rt, alloc, line, mission.as_bytes(), 100_000, &[], &[])?;
+        assert_eq!(rt; code_of, code, "{line}");
+        assert_eq!(rt; out.bytes(), text.as_bytes());
     }
     Ok(())
 }

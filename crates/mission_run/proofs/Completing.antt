@@ -1,0 +1,119 @@
+-- A command is carried out to its end, unless memory runs out, a fault comes or a slot stops the run.
+use Rattle.std.proofs.Common.{◌≡◌, ◌≤◌, ◌<◌, ◌⊎◌, ◌+◌, ◌-◌, inl, inr, ℕ, zero, suc, Bool, List, [], ◌∷◌, ◌++◌, length, Option, Some, None, Result, Ok, Err, refl, sym, ap, subst, ◌∙◌, arith}
+use Rattle.std.proofs.Math.Seq.{drop-append_seam}
+use Rattle.std.specs.Prelude.{drop}
+use Rattle.guards_io.specs.Causes.{Rose}
+use Rattle.guards_model.specs.BusRules.{RuleValue}
+use Rattle.guards_model.specs.Missions.{MissionValue}
+use Rattle.guards_model.specs.Network.{EntryValue, Log}
+use Rattle.guards_model.specs.Rounds.{Histories}
+use Rattle.guards_model.specs.Texts.{StopValue}
+use Rattle.guards_runs.specs.Cycles.{cycles_before, cycle_at}
+use Rattle.guards_runs.specs.Disturbed.{stop_in, stop_of, first_of_two}
+use Rattle.guards_laws.proofs.LogGrows.{length-cycles_before}
+use Rattle.guards_world.specs.WorldCycle.{BusValue}
+use Rattle.demo_mission.specs.Demo.{demo_mission}
+use Rattle.mission_text.specs.Mission.{mission_of}
+use Rattle.ideal_run.specs.Writes.{SinkView}
+use Rattle.check_text.specs.Check.{check_of}
+use Rattle.command_words.specs.Commands.{command_of}
+use Rattle.command_words.specs.declared.command.Command.{Command}
+use Rattle.command_words.specs.declared.command.Command.TheVariants as command
+use Rattle.run_laws.specs.Runs.{Ran, RanToStop}
+use Rattle.world_run.specs.Running.{stop_value}
+use Rattle.mission_run.specs.declared.input.TheConstants.{LIMIT}
+use Rattle.mission_run.specs.declared.status.Status.{Status}
+use Rattle.mission_run.specs.declared.status.Status.TheVariants.{Done, Usage, BadMission, TooLong, ReadFault, WriteFault, TooManyDisturbed, NoMemory}
+use Rattle.mission_run.specs.Reading.{OfMission, Tells}
+use Rattle.mission_run.specs.TopCall.{Outside, RunsMission, RunsDemo, Serves, Outcome, CompletesRun, CompletesCommand, Completes}
+use Rattle.mission_run.proofs.Complete.{refused_for_memory, same_mission, told_to_end}
+
+-- the entries of a run are those that the log grew by
+same_entries : (log K L : Log) → log ++ K ≡ log ++ L → K ≡ L
+same_entries log K L h = sym (drop-append_seam log K) ∙ ap (drop (length log)) h ∙ drop-append_seam log L
+
+-- the first stop stays the first (as run_laws has it for the text)
+stop_stays : (M : MissionValue) (L : Log) (n : ℕ) (stop : StopValue) → stop_of (cycles_before M L n) ≡ None → stop_in n (cycle_at M L n) ≡ Some stop →
+    (k m : ℕ) → m ≡ n + suc k → stop_of (cycles_before M L m) ≡ Some stop
+stop_stays M L n stop unstopped stops zero m h =
+    let e : m ≡ suc n = omega (arith, h) in
+    rw e
+    (ap (λ o. first_of_two o (stop_in (length (cycles_before M L n)) (cycle_at M L n))) unstopped
+    ∙ ap (λ c. stop_in c (cycle_at M L n)) (length-cycles_before M L n) ∙ stops)
+stop_stays M L n stop unstopped stops (suc k) m h =
+    let e : m ≡ suc (n + suc k) = omega (arith, h) in
+    rw e
+    (ap (λ o. first_of_two o (stop_in (length (cycles_before M L (n + suc k))) (cycle_at M L (n + suc k)))) (stop_stays M L n stop unstopped stops k (n + suc k) refl))
+
+module _ (may : List RuleValue → EntryValue → Type 0) (M : MissionValue) (bus bus' : BusValue) where
+  -- a run whose entries stop in no cycle does not stop
+  not_stopped : (K L : Log) (stop : StopValue) (histories : Histories) → Ran may M bus bus' K → RanToStop M stop.cycle stop K histories → bus'.log ≡ bus.log ++ L → stop_of (cycles_before M L M.cycles) ≡ None → ⊥
+  not_stopped K L stop histories ran stopped grew goes_on =
+      let same : K ≡ L = same_entries bus.log K L (sym ran.log ∙ grew) in
+      let unstopped : stop_of (cycles_before M K M.cycles) ≡ None = ap (λ entries. stop_of (cycles_before M entries M.cycles)) same ∙ goes_on in
+      let stays = stop_stays M K stop.cycle stop stopped.unstopped stopped.stopped (M.cycles - stop.cycle - 1) M.cycles (omega (arith, stopped.within)) in
+      cc (sym unstopped ∙ stays)
+
+  run_to_end : (trace : Bool) (out out' : SinkView) (status : Status) (L : Log) → RunsMission may trace M bus bus' out out' status → bus'.log ≡ bus.log ++ L → stop_of (cycles_before M L M.cycles) ≡ None →
+      (Rose out.faults out'.faults → ⊥) → (status ≡ Done) ⊎ (status ≡ NoMemory)
+  run_to_end trace out out' Done L ran grew goes_on no_write = inl refl
+  run_to_end trace out out' NoMemory L ran grew goes_on no_write = inr refl
+  run_to_end trace out out' WriteFault L ran grew goes_on no_write = absurd (no_write ran.6)
+  run_to_end trace out out' (TooManyDisturbed cycle slot set active) L ran grew goes_on no_write =
+      absurd (not_stopped ran.0 L (stop_value cycle slot set active) ran.1 ran.3 ran.4 grew goes_on)
+  run_to_end trace out out' Usage L ran grew goes_on no_write = absurd ran
+  run_to_end trace out out' (BadMission why) L ran grew goes_on no_write = absurd ran
+  run_to_end trace out out' TooLong L ran grew goes_on no_write = absurd ran
+  run_to_end trace out out' ReadFault L ran grew goes_on no_write = absurd ran
+
+demo_to_end : (may : List RuleValue → EntryValue → Type 0) (number : ℕ) (bus bus' : BusValue) (out out' : SinkView) (status : Status) (L : Log) → RunsDemo may number bus bus' out out' status →
+    bus'.log ≡ bus.log ++ L → stop_of (cycles_before (demo_mission number) L (demo_mission number).cycles) ≡ None → (Rose out.faults out'.faults → ⊥) → (status ≡ Done) ⊎ (status ≡ NoMemory)
+demo_to_end may number bus bus' out out' Done L ran grew goes_on no_write = inl refl
+demo_to_end may number bus bus' out out' NoMemory L ran grew goes_on no_write = inr refl
+demo_to_end may number bus bus' out out' WriteFault L ran grew goes_on no_write = absurd (no_write ran.5)
+demo_to_end may number bus bus' out out' (TooManyDisturbed cycle slot set active) L ran grew goes_on no_write =
+    absurd (not_stopped may (demo_mission number) bus bus' ran.0 L (stop_value cycle slot set active) ran.1 ran.2 ran.3 grew goes_on)
+demo_to_end may number bus bus' out out' Usage L ran grew goes_on no_write = absurd ran
+demo_to_end may number bus bus' out out' (BadMission why) L ran grew goes_on no_write = absurd ran
+demo_to_end may number bus bus' out out' TooLong L ran grew goes_on no_write = absurd ran
+demo_to_end may number bus bus' out out' ReadFault L ran grew goes_on no_write = absurd ran
+
+module _ (may : List RuleValue → EntryValue → Type 0) (old new : Outside) (status : Status) where
+  served : (asked : Command) → Serves may asked old new status → CompletesCommand asked old new status
+  served (command.Run trace) (inl refused) = λ bytes M told within is L grew goes_on no_read no_write.
+      refused_for_memory old.source new.source old.sink new.sink status bytes M refused.0 told within is no_read
+  served (command.Run trace) (inr ran) = λ bytes M told within is L grew goes_on no_read no_write.
+      let same = same_mission old.source new.source ran.0 bytes ran.1 M ran.2 ran.3 told is in
+      run_to_end may M old.bus new.bus trace old.sink new.sink status L (subst (λ K. RunsMission may trace K old.bus new.bus old.sink new.sink status) same ran.4) grew goes_on no_write
+  served command.Check (went, kept) = λ bytes M told within is no_read no_write. by went bytes M told within is no_read no_write
+    where
+      by : OfMission (Unit {0}) (λ M. Tells (check_of M) old.sink new.sink status) old.source new.source old.sink new.sink status →
+          (bytes : List ℕ) (M : MissionValue) → old.source.left ≡ Some bytes → length bytes ≤ LIMIT → mission_of bytes ≡ Ok M →
+          (Rose old.source.faults new.source.faults → ⊥) → (Rose old.sink.faults new.sink.faults → ⊥) → (status ≡ Done) ⊎ (status ≡ NoMemory)
+      by (inl refused) bytes M told within is no_read no_write = refused_for_memory old.source new.source old.sink new.sink status bytes M refused.0 told within is no_read
+      by (inr ran) bytes M told within is no_read no_write = told_to_end (check_of ran.1) old.sink new.sink status ran.4 no_write
+  served (command.Demo number) (kept, ran) = λ L grew goes_on no_read no_write. demo_to_end may number old.bus new.bus old.sink new.sink status L ran grew goes_on no_write
+
+  by_words : (words : List (List ℕ)) (asked other : Command) → command_of words ≡ Some other → Serves may other old new status → command_of words ≡ Some asked → CompletesCommand asked old new status
+  by_words words asked other is ran is_too =
+      let both : Some other ≡ Some asked = sym is ∙ is_too in
+      let same : other ≡ asked = cc in
+      served asked (subst (λ k. Serves may k old new status) same ran)
+
+short_completes : (asked : Command) (old new : Outside) → CompletesCommand asked old new NoMemory
+short_completes (command.Run trace) old new = λ bytes M told within is L grew goes_on no_read no_write. inr refl
+short_completes command.Check old new = λ bytes M told within is no_read no_write. inr refl
+short_completes (command.Demo number) old new = λ L grew goes_on no_read no_write. inr refl
+
+pub outcome_completes : (may : List RuleValue → EntryValue → Type 0) (words : List (List ℕ)) (old new : Outside) (status : Status) → Outcome may words old new status → Completes words old new status
+outcome_completes may words old new NoMemory outcome = λ asked is. short_completes asked old new
+outcome_completes may words old new Usage outcome = λ asked is. absurd (none (sym is ∙ outcome.0))
+  where
+    none : {x : Command} → Some x ≡ None → ⊥
+    none h = cc
+outcome_completes may words old new Done outcome = λ asked is. by_words may old new Done words asked outcome.0 outcome.1 outcome.2 is
+outcome_completes may words old new (BadMission why) outcome = λ asked is. by_words may old new (BadMission why) words asked outcome.0 outcome.1 outcome.2 is
+outcome_completes may words old new TooLong outcome = λ asked is. by_words may old new TooLong words asked outcome.0 outcome.1 outcome.2 is
+outcome_completes may words old new ReadFault outcome = λ asked is. by_words may old new ReadFault words asked outcome.0 outcome.1 outcome.2 is
+outcome_completes may words old new WriteFault outcome = λ asked is. by_words may old new WriteFault words asked outcome.0 outcome.1 outcome.2 is
+outcome_completes may words old new (TooManyDisturbed cycle slot set active) outcome = λ asked is. by_words may old new (TooManyDisturbed cycle slot set active) words asked outcome.0 outcome.1 outcome.2 is

@@ -1,0 +1,77 @@
+-- What reading a mission does, and what telling of it does, by the answer.
+use Rattle.std.specs.Prelude.{◌≡◌, ◌≤◌, ◌+◌, ◌⊎◌, ℕ, List, length, Option, Some, Result, Ok, Err}
+use Rattle.std.specs.Io.KnownBytes.{Appends, Consumes, IsAtEnd}
+use Rattle.guards_io.specs.Causes.{Rose}
+use Rattle.guards_model.specs.Missions.{MissionValue}
+use Rattle.mission_checks.specs.declared.why.ReadFault.{ReadFault as Fault}
+use Rattle.mission_checks.specs.declared.why.ReadFault.TheVariants as fault
+use Rattle.mission_text.specs.Mission.{mission_of}
+use Rattle.ideal_run.specs.Writes.{SinkView, AppendsPart, AppendsFront}
+use Rattle.check_text.specs.Check.{check_of}
+use Rattle.world_run.specs.Running.{Refuses}
+use Rattle.mission_run.specs.declared.input.TheConstants.{LIMIT}
+use Rattle.mission_run.specs.declared.status.Status.{Status}
+use Rattle.mission_run.specs.declared.status.Status.TheVariants.{Done, Usage, BadMission, TooLong, ReadFault, WriteFault, TooManyDisturbed, NoMemory}
+use Rattle.mission_run.specs.Lines.{mission_line, long_line, read_line}
+use Rattle.mission_run.specs.Stream.{SourceView}
+
+-- The bytes were taken, and no fault came.
+abbrev pub Takes : SourceView → SourceView → List ℕ → Type 0
+Takes old new bytes = Consumes old.left new.left bytes × (new.faults ≡ old.faults)
+
+-- The bytes are all that the source had left.
+abbrev pub TakesAll : SourceView → SourceView → List ℕ → Type 0
+TakesAll old new bytes = (length bytes ≤ LIMIT) × Takes old new bytes × IsAtEnd new.left
+
+-- What refusing what a source gives does, by the status.
+abbrev pub RefusesBytes : SourceView → SourceView → SinkView → SinkView → Status → Type 0
+-- exactly where the source was read to its end and the bytes are no mission
+RefusesBytes src src' out out' (BadMission why) =
+    (bytes : List ℕ) × TakesAll src src' bytes × (mission_of bytes ≡ Err why) × Refuses out out' (mission_line why)
+-- exactly where the source gave one byte more than a mission has
+RefusesBytes src src' out out' TooLong = (bytes : List ℕ) × (length bytes ≡ LIMIT + 1) × Takes src src' bytes × Refuses out out' long_line
+-- only where the source's faults rose, and before the end of what is read
+RefusesBytes src src' out out' ReadFault =
+    (bytes : List ℕ) × (length bytes ≤ LIMIT) × Consumes src.left src'.left bytes × Rose src.faults src'.faults × Refuses out out' read_line
+RefusesBytes src src' out out' NoMemory = out' ≡ out
+RefusesBytes src src' out out' Done = ⊥
+RefusesBytes src src' out out' Usage = ⊥
+RefusesBytes src src' out out' WriteFault = ⊥
+RefusesBytes src src' out out' (TooManyDisturbed cycle slot set active) = ⊥
+
+-- what reading a mission does, by its answer
+abbrev pub ReadsMission : SourceView → SourceView → SinkView → SinkView → Result MissionValue Status → Type 0
+ReadsMission src src' out out' (Ok M) = (bytes : List ℕ) × TakesAll src src' bytes × (mission_of bytes ≡ Ok M) × (out' ≡ out)
+ReadsMission src src' out out' (Err status) = RefusesBytes src src' out out' status
+
+-- What a command does that reads a mission, by its status: it refuses the bytes, and what is to be kept is kept, or the source
+-- was read to its end, the bytes are a mission, and the command went on with it.
+abbrev pub OfMission : Type 0 → (MissionValue → Type 0) → SourceView → SourceView → SinkView → SinkView → Status → Type 0
+OfMission Kept goes_on src src' out out' status =
+    (RefusesBytes src src' out out' status × Kept)
+    ⊎ ((bytes : List ℕ) × (M : MissionValue) × TakesAll src src' bytes × (mission_of bytes ≡ Ok M) × goes_on M)
+
+-- what refusing a mission answers
+abbrev pub RefusesMission : Fault → SinkView → SinkView → Status → Type 0
+RefusesMission (fault.Bad given) old new (BadMission why) = (why ≡ given) × Refuses old new (mission_line why)
+RefusesMission given old new NoMemory = new ≡ old
+RefusesMission given old new _ = ⊥
+
+-- ---- the command `check`
+
+-- what writing a text answers
+abbrev pub Tells : List ℕ → SinkView → SinkView → Status → Type 0
+Tells text old new Done = Appends old.written new.written text × (new.faults ≡ old.faults)
+Tells text old new WriteFault = AppendsPart old.written new.written text × Rose old.faults new.faults
+Tells text old new NoMemory = AppendsFront old.written new.written text × (new.faults ≡ old.faults)
+Tells text old new _ = ⊥
+
+-- what the check of what a source gives does
+abbrev pub ChecksBytes : SourceView → SourceView → SinkView → SinkView → Status → Type 0
+ChecksBytes src src' out out' status = OfMission (Unit {0}) (λ M. Tells (check_of M) out out' status) src src' out out' status
+
+-- A mission that the source tells is told to its end, unless memory runs out or a fault comes.
+abbrev pub CompletesCheck : SourceView → SourceView → SinkView → SinkView → Status → Type 0
+CompletesCheck src src' out out' status =
+    (bytes : List ℕ) (M : MissionValue) → src.left ≡ Some bytes → length bytes ≤ LIMIT → mission_of bytes ≡ Ok M →
+    (Rose src.faults src'.faults → ⊥) → (Rose out.faults out'.faults → ⊥) → (status ≡ Done) ⊎ (status ≡ NoMemory)

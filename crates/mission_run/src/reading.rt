@@ -1,0 +1,106 @@
+//! Reads a mission, and tells what it is.
+ghost use Rattle.check_text.specs.Check.{check_of};
+ghost use Rattle.ideal_run.specs.Writes.{SinkView, Writes, sink_view};
+ghost use Rattle.mission_run.specs.Reading.{ReadsMission, RefusesMission, Tells, ChecksBytes, CompletesCheck};
+ghost use Rattle.mission_run.specs.Stream.{source_view};
+ghost use Rattle.std.specs.Prelude.{List, ℕ};
+
+use crate::check::write_check;
+use crate::input::{ReadStop, read_all};
+use crate::lines::{long_line, mission_line, read_line};
+use crate::status::Status;
+use guards_io::{Sink, Source};
+use ideal_run::WriteStop;
+use mission_checks::ReadFault;
+use mission_text::read;
+use mission_type::Mission;
+use std::alloc::Global;
+use world_run::refuse;
+
+/// Writes the line of bytes that are no mission.
+fn refuse_mission<K: Sink>(alloc: Global, out: &mut K, fault: ReadFault) -> Status
+    ensures { RefusesMission fault (sink_view (K.written out.old) (K.faults out.old))
+        (sink_view (K.written out.new) (K.faults out.new)) result }
+{
+    let ReadFault::Bad(why) = fault else {
+        return Status::NoMemory;
+    };
+    match mission_line(alloc, &why) {
+        Ok(line) => {
+            refuse(out, &line);
+            Status::BadMission(why)
+        }
+        Err(_) => Status::NoMemory,
+    }
+}
+
+/// Reads the mission that the source gives. Where there is none, it writes the line that says why.
+pub fn read_mission<S: Source, K: Sink>(
+    alloc: Global,
+    src: &mut S,
+    out: &mut K,
+) -> Result<Mission, Status>
+    ensures { ReadsMission
+        (source_view (S.left src.old) (S.faults src.old))
+        (source_view (S.left src.new) (S.faults src.new))
+        (sink_view (K.written out.old) (K.faults out.old))
+        (sink_view (K.written out.new) (K.faults out.new)) result }
+{
+    let bytes = match read_all(alloc, src) {
+        Ok(bytes) => bytes,
+        Err(ReadStop::Failed) => {
+            refuse(out, read_line());
+            return Err(Status::ReadFault);
+        }
+        Err(ReadStop::TooLong) => {
+            refuse(out, long_line());
+            return Err(Status::TooLong);
+        }
+        Err(ReadStop::Memory) => return Err(Status::NoMemory),
+    };
+    match read(alloc, bytes.as_slice()) {
+        Ok(mission) => Ok(mission),
+        Err(fault) => Err(refuse_mission(alloc, out, fault)),
+    }
+}
+
+/// The status of a text that was written.
+fn told(written: Result<(), WriteStop>) -> Status
+    ensures { (text : List ℕ) (old new : SinkView) → Writes old new text written → Tells text old new result }
+{
+    match written {
+        Ok(()) => Status::Done,
+        Err(WriteStop::Failed) => Status::WriteFault,
+        Err(WriteStop::Memory) => Status::NoMemory,
+    }
+}
+
+/// Reads a mission and writes what it is: its sizes, the rounds of a cycle, the bound of a join, and each row's
+/// expressions.
+pub fn check_mission<S: Source, K: Sink>(alloc: Global, src: &mut S, out: &mut K) -> Status
+    ensures outcome { ChecksBytes
+        (source_view (S.left src.old) (S.faults src.old))
+        (source_view (S.left src.new) (S.faults src.new))
+        (sink_view (K.written out.old) (K.faults out.old))
+        (sink_view (K.written out.new) (K.faults out.new)) result }
+    ensures completes { CompletesCheck
+        (source_view (S.left src.old) (S.faults src.old))
+        (source_view (S.left src.new) (S.faults src.new))
+        (sink_view (K.written out.old) (K.faults out.old))
+        (sink_view (K.written out.new) (K.faults out.new)) result }
+{
+    check_read(alloc, src, out)
+}
+
+fn check_read<S: Source, K: Sink>(alloc: Global, src: &mut S, out: &mut K) -> Status
+    ensures { ChecksBytes
+        (source_view (S.left src.old) (S.faults src.old))
+        (source_view (S.left src.new) (S.faults src.new))
+        (sink_view (K.written out.old) (K.faults out.old))
+        (sink_view (K.written out.new) (K.faults out.new)) result }
+{
+    match read_mission(alloc, src, out) {
+        Ok(mission) => told(write_check(alloc, &mission, out)),
+        Err(status) => status,
+    }
+}
