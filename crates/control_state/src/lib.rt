@@ -16,3 +16,4 @@ mod word;
 
 pub use control::{Closed, Control, Decision, Transfer};
 pub use guards_base::Rules;
+pub use sets::channel;

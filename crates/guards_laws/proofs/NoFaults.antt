@@ -1,6 +1,6 @@
 -- A run without faults stops nowhere: all channels stay up, nobody is judged, and nobody asks.
-use Rattle.std.proofs.Common.{◌≡◌, ℕ, zero, suc, ◌+◌, ◌-◌, ◌*◌, ◌/◌, ◌<◌, ◌≤◌, ◌==◌, ◌⊎◌, inl, inr, Bool, true, false, cond, not, ◌&&◌, ◌||◌, List, [], ◌∷◌, ◌++◌, length, map, Option, None, Some, refl, sym, ap, subst, ◌∙◌, arith, eq-eqb}
-use Rattle.std.specs.Prelude.{nat_lt, nat_le, filter, filter_map, find, flat_map, take, option_map, option_and_then, bytes_eq, is_none}
+use Rattle.std.proofs.Common.{◌≡◌, ℕ, zero, suc, ◌-◌, ◌*◌, ◌<◌, ◌≤◌, ◌==◌, ◌⊎◌, inl, inr, Bool, true, false, cond, not, ◌&&◌, ◌||◌, List, [], ◌∷◌, ◌++◌, length, map, Option, None, Some, refl, sym, ap, subst, ◌∙◌, arith, eq-eqb}
+use Rattle.std.specs.Prelude.{nat_lt, nat_le, filter, filter_map, find, flat_map, take, option_map, option_and_then}
 use Rattle.std.specs.List.{list_all, list_any, AllByRecursion, AllZip}
 use Rattle.std.proofs.lemmas.Bool.{lt-leb, le-leb, leb-true, leb-false, eqb-true, cases_lt, cases_eq}
 use Rattle.std.proofs.lemmas.Slice.Eq.{bytes_eq-Decides}
@@ -9,25 +9,25 @@ use Rattle.guards_model.specs.declared.Slot.TheVariants.{Request, Switch}
 use Rattle.guards_model.specs.declared.Law.{Law}
 use Rattle.guards_model.specs.declared.Law.TheVariants.{Multiply, Subtract}
 use Rattle.guards_model.specs.Slots.{every_slot, on_bus, up_to}
-use Rattle.guards_model.specs.Channels.{Channel, ChannelSet, has, place_or, by_channel, every_channel, channels_where, numbers_below, without, union}
+use Rattle.guards_model.specs.Channels.{Channel, ChannelSet, has, place_or, by_channel, channels_where, numbers_below, without}
 use Rattle.guards_model.specs.Faults.{FaultValue, crash, restart, damage, bus}
-use Rattle.guards_model.specs.Missions.{MissionValue, IsMission, channels_of, bus_rule, bus_rules, is_fault, format_of}
+use Rattle.guards_model.specs.Missions.{MissionValue, IsMission, bus_rule, is_fault, format_of}
 use Rattle.guards_model.specs.Frames.{SourceValue}
 use Rattle.guards_model.specs.Network.{EntryValue, Log, is_carry, have_of}
 use Rattle.guards_model.specs.ScriptedBus.{IsScripted}
-use Rattle.guards_model.specs.Modes.{ModeValue, up, down, waiting, joining, is_up, is_joining, is_crash_by, is_restart, mode_at_start, mode_at_end}
+use Rattle.guards_model.specs.Modes.{up, down, is_up, is_joining, is_crash_by, is_restart, mode_at_start, mode_at_end}
 use Rattle.guards_model.specs.Damages.{is_damage}
-use Rattle.guards_model.specs.Diagnosis.{Agreed, count_step, decayed, asks, enough_heard, enough_tell, counts_of}
-use Rattle.guards_model.specs.Transfers.{TransferValue, new_targets, transfer_to, transfer_or, transfer_after}
+use Rattle.guards_model.specs.Diagnosis.{count_step, asks, counts_of}
+use Rattle.guards_model.specs.Transfers.{transfer_to, transfer_after}
 use Rattle.guards_model.specs.Decisions.{joined_of, request_code}
 use Rattle.guards_model.specs.Texts.{StopValue}
 use Rattle.guards_runs.specs.Cycles.{Cycle, Past, mode_in, is_damaged, is_whole, active_set, base_counts, running_transfer, mode_after, was_damaged, heard_before, source_word, received_body, opening_of, agreement_of, decision_of, work_of, cycle_from, next_cycle, cycles_before, entries_of}
 use Rattle.guards_runs.specs.Disturbed.{is_charge, differs_from, disturbed_channels, halts, stop_in, stop_of, first_of_two}
 use Rattle.guards_runs.specs.Due.{Carry, IsDue, is_sender, slot_carries, cycle_carries, carries_frames, receivers}
-use Rattle.guards_runs.specs.Promises.{EachCycle, is_undisturbed, was_undisturbed_or_absent, HasRun, Agrees}
+use Rattle.guards_runs.specs.Promises.{EachCycle, was_undisturbed_or_absent, HasRun, Agrees}
 use Rattle.guards_runs.specs.Faultless.{is_harmless, IsFaultless, HasDue}
-use Rattle.guards_model.proofs.BoolTests.{both, and_true, no_first}
-use Rattle.guards_model.proofs.Tables.{at-by_channel, has-filter, has-channels_where}
+use Rattle.guards_model.proofs.BoolTests.{both, and_true}
+use Rattle.guards_model.proofs.Tables.{at-by_channel, has-channels_where}
 use Rattle.guards_model.proofs.Counting.{keep_true}
 use Rattle.guards_model.proofs.AscendingLists.{member-channel, member_passes, below_under}
 use Rattle.guards_model.proofs.NumbersBelow.{below_there}
@@ -37,12 +37,12 @@ use Rattle.guards_model.proofs.SettledWords.{not_many_tell}
 use Rattle.guards_laws.proofs.LogGrows.{length-cycles_before}
 use Rattle.guards_laws.proofs.HeldIdeal.{start, start-is, slot_mode, damaged-is}
 use Rattle.guards_laws.proofs.CycleParts.{active-is, heard-is}
-use Rattle.guards_laws.proofs.Channelled.{past_table, mode_past}
+use Rattle.guards_laws.proofs.Channelled.{past_table}
 use Rattle.guards_laws.proofs.CarriedEntries.{fields, carried_whole}
 use Rattle.guards_laws.proofs.DueEntries.{IsDueNow, each_due, entries_now}
 use Rattle.guards_laws.proofs.Planned.{ranges}
 use Rattle.guards_laws.proofs.StayActive.{three_active}
-use Rattle.guards_laws.proofs.WithinChannels.{active_within, active_is_set}
+use Rattle.guards_laws.proofs.WithinChannels.{active_is_set}
 use Rattle.guards_laws.proofs.RunFacts.{IsCycle}
 use Rattle.guards_laws.proofs.AgreedWords.{settled_now}
 use Rattle.guards_laws.proofs.Agreement.{agrees}
@@ -180,7 +180,7 @@ take_nil : (n : ℕ) → take n nobody ≡ nobody
 take_nil zero = refl
 take_nil (suc n) = refl
 
-filter_none : (xs : List ℕ) → filter (λ q. false) xs ≡ []
+pub filter_none : (xs : List ℕ) → filter (λ q. false) xs ≡ []
 filter_none [] = refl
 filter_none (x ∷ xs) = filter_none xs
 
@@ -209,7 +209,7 @@ starts_as : (b restarted : Bool) → (b ≡ false → restarted ≡ false) → m
 starts_as true restarted h = refl
 starts_as false restarted h = ap (λ r. mode_at_start r down) (h refl)
 
-below_is : (n q : ℕ) → has (numbers_below n) q ≡ nat_lt q n
+pub below_is : (n q : ℕ) → has (numbers_below n) q ≡ nat_lt q n
 below_is n q = by (cases_lt q n)
   where
     not_there : (b : Bool) → has (numbers_below n) q ≡ b → n ≤ q → b ≡ false
@@ -223,17 +223,17 @@ below_is n q = by (cases_lt q n)
 -- ---- a run without faults
 
 module _ (M : MissionValue) (L : Log) (mission : IsMission M) (faultless : IsFaultless M L) where
-  abbrev there : Channel → Bool
+  abbrev pub there : Channel → Bool
   there q = nat_lt q M.rules.channels
 
-  record Calm (past : Past) : Type 0 where
-    active : (q : Channel) → q < 7 → has (active_set M past) q ≡ there q
-    modes : (q : Channel) → q < 7 → mode_after M past q ≡ cond (there q) up down
-    sound : (q : Channel) → q < 7 → was_damaged past q ≡ false
-    running : running_transfer past ≡ None
-    counts : (q : Channel) → place_or (base_counts M past) q 0 ≡ 0
-    codes : (j q : Channel) → place_or (heard_before past j) q 0 ≡ 0
-    quiet : (q : Channel) → was_undisturbed_or_absent past q ≡ true
+  pub record Calm (past : Past) : Type 0 where
+    pub active : (q : Channel) → q < 7 → has (active_set M past) q ≡ there q
+    pub modes : (q : Channel) → q < 7 → mode_after M past q ≡ cond (there q) up down
+    pub sound : (q : Channel) → q < 7 → was_damaged past q ≡ false
+    pub running : running_transfer past ≡ None
+    pub counts : (q : Channel) → place_or (base_counts M past) q 0 ≡ 0
+    pub codes : (j q : Channel) → place_or (heard_before past j) q 0 ≡ 0
+    pub quiet : (q : Channel) → was_undisturbed_or_absent past q ≡ true
 
   at_table : (f : Channel → ℕ) (q : Channel) → ((p : Channel) → p < 7 → f p ≡ 0) → place_or (by_channel f) q 0 ≡ 0
   at_table f q h = by (cases_lt q 7)
@@ -279,7 +279,7 @@ module _ (M : MissionValue) (L : Log) (mission : IsMission M) (faultless : IsFau
         above : nat_lt q M.rules.channels ≡ false → M.rules.channels ≤ q
         above h = omega (arith, leb-false (suc q) M.rules.channels h)
 
-    mode_here : (q : Channel) (low : q < 7) (slot : Slot) → on_bus slot ≡ true → mode_in e q slot ≡ cond (there q) up down
+    pub mode_here : (q : Channel) (low : q < 7) (slot : Slot) → on_bus slot ≡ true → mode_in e q slot ≡ cond (there q) up down
     mode_here q low slot on =
         slot_mode M L past q low slot on
         ∙ ap (λ b. cond b down (start M L past q low)) (no_crash M.script q c slot faultless.harmless)
@@ -292,10 +292,10 @@ module _ (M : MissionValue) (L : Log) (mission : IsMission M) (faultless : IsFau
         ∙ ap (λ b. is_up (start M L past q low) && b) (calm.sound q low)
         ∙ off (is_up (start M L past q low))
 
-    active_set_is : Rattle.guards_model.specs.Frames.is_set e.active ≡ true
+    pub active_set_is : Rattle.guards_model.specs.Frames.is_set e.active ≡ true
     active_set_is = ap Rattle.guards_model.specs.Frames.is_set (active-is M L past) ∙ active_is_set M past mission
 
-    active_here : (q : Channel) → q < 7 → has e.active q ≡ there q
+    pub active_here : (q : Channel) → q < 7 → has e.active q ≡ there q
     active_here q low = ap (λ s. has s q) (active-is M L past) ∙ calm.active q low
 
     calm_in : (slot : Slot) → on_bus slot ≡ true → (q : Channel) → has e.active q ≡ true →
@@ -308,7 +308,7 @@ module _ (M : MissionValue) (L : Log) (mission : IsMission M) (faultless : IsFau
         ∙ ap (list_any (is_charge c slot q)) (entries_now M L past)
         ∙ none_charged L c c slot q rules_none
 
-    undisturbed : (slot : Slot) → on_bus slot ≡ true → disturbed_channels c e slot ≡ []
+    pub undisturbed : (slot : Slot) → on_bus slot ≡ true → disturbed_channels c e slot ≡ []
     undisturbed slot on =
         filter_alike (λ q. (not (is_up (mode_in e q slot)) || is_damaged e q slot) || list_any (is_charge c slot q) e.entries) (λ q. false) e.active (calm_in slot on) ∙ filter_none e.active
 
@@ -325,7 +325,7 @@ module _ (M : MissionValue) (L : Log) (mission : IsMission M) (faultless : IsFau
     -- ---- the decision, where the entries of the cycle are the due ones
 
     module _ (due : IsDueNow M past e) (early : n < M.cycles) (earlier : (m : ℕ) → m < n → IsCycle M L m) where
-      run : IsCycle M L n
+      pub run : IsCycle M L n
       run =
           record {
             mission = mission;
@@ -335,18 +335,18 @@ module _ (M : MissionValue) (L : Log) (mission : IsMission M) (faultless : IsFau
             few = subst (λ (D : ChannelSet). 3 * length D < length e.active) (sym (undisturbed Switch refl)) (omega (arith, many));
           }
 
-      agreed_on : Agrees M past e
+      pub agreed_on : Agrees M past e
       agreed_on = agrees M L n run (λ m same. earlier m (omega (arith, same)))
 
-      unjudged : (q : Channel) → has e.active q ≡ true → has e.judged q ≡ false
+      pub unjudged : (q : Channel) → has e.active q ≡ true → has e.judged q ≡ false
       unjudged q member =
           agreed_on.innocent q (and_true (has e.active q) (not (has (disturbed_channels c e Switch) q)) member (ap (λ s. not (has s q)) (undisturbed Switch refl))) (calm.quiet q)
 
-      counts_are : e.counts ≡ counts_of M.rules.law M.rules.keep M.rules.decrement e.active e.judged (base_counts M past)
+      pub counts_are : e.counts ≡ counts_of M.rules.law M.rules.keep M.rules.decrement e.active e.judged (base_counts M past)
       unfolding cycle_from decision_of opening_of
       counts_are = refl
 
-      uncounted : (q : Channel) → place_or e.counts q 0 ≡ 0
+      pub uncounted : (q : Channel) → place_or e.counts q 0 ≡ 0
       uncounted q =
           ap (λ t. place_or t q 0) counts_are
           ∙ at_table (λ p. cond (has e.active p) (count_step M.rules.law M.rules.keep M.rules.decrement (has e.judged p) (place_or (base_counts M past) p 0)) 0) q
@@ -378,7 +378,7 @@ module _ (M : MissionValue) (L : Log) (mission : IsMission M) (faultless : IsFau
           ∙ ap (λ b. b || asks e.active e.fresh e.agreed q) (too_many M.rules.threshold (omega (arith, (ranges M mission).threshold)))
           ∙ unasked q
 
-      unremoved : e.removed ≡ []
+      pub unremoved : e.removed ≡ []
       unremoved =
           removed_are
           ∙ ap (take (length e.active - 3)) (filter_alike (λ q. nat_le M.rules.threshold (place_or e.counts q 0) || asks e.active e.fresh e.agreed q) (λ q. false) e.active (λ q member. few_counts q) ∙ filter_none e.active)
@@ -388,7 +388,7 @@ module _ (M : MissionValue) (L : Log) (mission : IsMission M) (faultless : IsFau
       unfolding cycle_from decision_of opening_of agreement_of
       transfer_is = refl
 
-      untransferred : e.transfer ≡ None
+      pub untransferred : e.transfer ≡ None
       untransferred =
           transfer_is
           ∙ ap (transfer_after M.rules.channels M.rules.returning e.active e.fresh e.agreed c) calm.running
@@ -399,7 +399,7 @@ module _ (M : MissionValue) (L : Log) (mission : IsMission M) (faultless : IsFau
       unfolding cycle_from work_of
       joined_are = refl
 
-      unjoined : e.joined ≡ []
+      pub unjoined : e.joined ≡ []
       unjoined = joined_are ∙ ap (λ o. joined_of M.rules.last o e.remaining) untransferred
 
       -- ---- the next cycle
@@ -456,15 +456,15 @@ module _ (M : MissionValue) (L : Log) (mission : IsMission M) (faultless : IsFau
 
   -- ---- all cycles
 
-  record CalmRun (n : ℕ) : Type 0 where
-    calm : Calm (cycles_before M L n)
-    unstopped : stop_of (cycles_before M L n) ≡ None
-    cycles : (m : ℕ) → m < n → IsCycle M L m
+  pub record CalmRun (n : ℕ) : Type 0 where
+    pub calm : Calm (cycles_before M L n)
+    pub unstopped : stop_of (cycles_before M L n) ≡ None
+    pub cycles : (m : ℕ) → m < n → IsCycle M L m
 
   none_of_two : (a b : Option StopValue) → a ≡ None → b ≡ None → first_of_two a b ≡ None
   none_of_two a b h k = ap (λ o. first_of_two o b) h ∙ k
 
-  calm_run : (n : ℕ) → n ≤ M.cycles → EachCycle (IsDueNow M) (cycles_before M L n) → CalmRun n
+  pub calm_run : (n : ℕ) → n ≤ M.cycles → EachCycle (IsDueNow M) (cycles_before M L n) → CalmRun n
   calm_run zero early due = record { calm = first_calm; unstopped = refl; cycles = λ m low. absurd (omega (arith, low)) }
   calm_run (suc n) early due =
       let before = calm_run n (omega arith) due.1 in
@@ -477,7 +477,7 @@ module _ (M : MissionValue) (L : Log) (mission : IsMission M) (faultless : IsFau
         ];
       }
 
-each_is_due : (M : MissionValue) (L : Log) (n : ℕ) → HasDue M L n → EachCycle (IsDueNow M) (cycles_before M L n)
+pub each_is_due : (M : MissionValue) (L : Log) (n : ℕ) → HasDue M L n → EachCycle (IsDueNow M) (cycles_before M L n)
 each_is_due M L n has_due = each_due M L n has_due.before has_due.later has_due.entries (subst (λ k. Rattle.guards_model.specs.Network.AreFrom k has_due.later) (sym (length-cycles_before M L n)) has_due.after) has_due.due
 
 -- a run without faults goes on

@@ -1,26 +1,19 @@
 -- What the facts of the earlier cycles say does not look at their entries.
-use Rattle.std.proofs.Common.{◌≡◌, ℕ, ◌==◌, Bool, true, false, cond, ◌&&◌, ◌||◌, List, [], ◌∷◌, length, Option, None, Some, ℤ, refl, sym, ap, ◌∙◌, map}
+use Rattle.std.proofs.Common.{◌≡◌, ℕ, ◌==◌, Bool, true, ◌&&◌, ◌||◌, List, [], ◌∷◌, length, Option, None, Some, refl, sym, ap, ◌∙◌, map}
 use Rattle.std.specs.Prelude.{nat_lt, nat_le, find, option_map, if◌then◌else◌}
 use Rattle.std.specs.List.{list_any}
 use Rattle.std.proofs.lemmas.List.{length-map}
 use Rattle.std.proofs.Math.Path.{fun_ext}
-use Rattle.guards_model.specs.declared.Slot.{Slot}
 use Rattle.guards_model.specs.declared.Slot.TheVariants.{Request, Sweep, Switch}
 use Rattle.guards_model.specs.Slots.{every_slot}
 use Rattle.guards_model.specs.Channels.{Channel, ChannelSet, has, place_or, by_channel, channels_where}
 use Rattle.guards_model.specs.Contexts.{ContextValue}
-use Rattle.guards_model.specs.Tasks.{whole}
-use Rattle.guards_model.specs.Missions.{MissionValue, cycle_writes, written_blocks, output_words, sensor}
+use Rattle.guards_model.specs.Missions.{MissionValue, written_blocks, sensor}
 use Rattle.guards_model.specs.Frames.{SourceValue}
-use Rattle.guards_model.specs.Network.{Log, have_of}
-use Rattle.guards_model.specs.OralMessages.{agreed_by}
-use Rattle.guards_model.specs.Voting.{Ballots, inputs_of, vote_of, accused_of}
-use Rattle.guards_model.specs.Diagnosis.{Agreed, judged_of, counts_of, removed_of}
-use Rattle.guards_model.specs.Transfers.{TransferValue, TransferCycle, transfer_after, start_of, remaining_blocks, planned_blocks}
-use Rattle.guards_model.specs.Decisions.{DecisionValue, request_code, joined_of}
+use Rattle.guards_model.specs.Transfers.{TransferValue, TransferCycle, start_of, remaining_blocks, planned_blocks}
 use Rattle.guards_model.specs.Modes.{ModeValue, down, is_up, scripted_mode_at_start, scripted_mode_in_slot, mode_at_end}
 use Rattle.guards_model.specs.Damages.{is_damage, damaged_by}
-use Rattle.guards_runs.specs.Cycles.{Cycle, CycleStart, Agreement, CycleResult, Past, mode_in, joins_from, joins_since, is_whole, starts_to, starts_of, held_start, active_set, fresh_set, base_counts, running_transfer, mode_after, context_after, was_damaged, ideal_after, opening_of, accused_before, heard_before, source_word, received_items, received_body, items_in, first_up, agreement_of, swept_since, plan_of, decision_of, ballots_at, remaining_of, work_of}
+use Rattle.guards_runs.specs.Cycles.{CycleStart, Past, mode_in, joins_from, joins_since, is_whole, starts_to, starts_of, held_start, active_set, fresh_set, base_counts, running_transfer, mode_after, context_after, was_damaged, ideal_after, opening_of, accused_before, heard_before, source_word, swept_since, plan_of, remaining_of}
 use Rattle.guards_runs.specs.SameFacts.{without_entries, HaveSameFacts}
 
 abbrev pub bare : Past → Past

@@ -1,16 +1,15 @@
 -- The report of a whole run says nothing that the facts of its cycles do not say, their entries apart.
-use Rattle.std.proofs.Common.{◌≡◌, ℕ, Bool, true, false, cond, length, List, [], ◌∷◌, ◌++◌, map, Option, None, refl, sym, ap, ◌∙◌}
+use Rattle.std.proofs.Common.{◌≡◌, false, length, List, [], ◌∷◌, ◌++◌, None, refl, sym, ap, ◌∙◌}
 use Rattle.std.specs.Prelude.{is_some, if◌then◌else◌}
 use Rattle.std.specs.List.{AllByRecursion}
 use Rattle.guards_model.specs.Missions.{MissionValue, bus_rules}
 use Rattle.guards_model.specs.Network.{Log}
 use Rattle.guards_model.specs.ScriptedBus.{IsScripted}
-use Rattle.guards_model.specs.Rounds.{Histories}
 use Rattle.guards_model.specs.Texts.{Part, text_of, cycle_part, head_line, last_line}
 use Rattle.guards_runs.specs.Cycles.{Past, cycles_before}
 use Rattle.guards_runs.specs.Disturbed.{stop_of}
 use Rattle.guards_runs.specs.Promises.{IsRun}
-use Rattle.guards_runs.specs.Report.{cycle_record, cycle_parts, parts_of, told_cycles, told_histories, earlier_steps, run_parts, report_parts, report}
+use Rattle.guards_runs.specs.Report.{cycle_record, cycle_parts, parts_of, told_cycles, told_histories, run_parts, report_parts, report}
 use Rattle.guards_runs.specs.SameFacts.{without_entries, HaveSameFacts}
 use Rattle.guards_laws.proofs.Agreement.{whole_run}
 use Rattle.guards_laws.proofs.SamePast.{bare, size_bare}

@@ -1,7 +1,7 @@
 -- Two runs of one mission over a bus that does what the script says have the same facts, wherever copies fell in them.
 use Rattle.std.proofs.Common.{◌≡◌, ℕ, zero, suc, ◌+◌, ◌-◌, ◌<◌, ◌≤◌, ◌==◌, Bool, true, false, cond, not, ◌&&◌, ◌||◌, List, [], ◌∷◌, ◌++◌, length, map, Option, None, Some, ℤ, refl, sym, ap, subst, ◌∙◌, arith, eq-eqb}
-use Rattle.std.specs.Prelude.{nat_lt, nat_le, find, flat_map, option_map, option_and_then, is_some, if◌then◌else◌}
-use Rattle.std.specs.List.{list_all, AllByRecursion, AllZip}
+use Rattle.std.specs.Prelude.{nat_lt, nat_le, find, flat_map, option_map, option_and_then, if◌then◌else◌}
+use Rattle.std.specs.List.{AllByRecursion, AllZip}
 use Rattle.std.proofs.lemmas.Bool.{le-leb, leb-true}
 use Rattle.std.proofs.Math.Path.{fun_ext}
 use Rattle.guards_model.specs.declared.Slot.{Slot}
@@ -22,12 +22,11 @@ use Rattle.guards_model.specs.Diagnosis.{Agreed, judged_of, counts_of, removed_o
 use Rattle.guards_model.specs.Transfers.{TransferValue, transfer_after}
 use Rattle.guards_model.specs.Decisions.{DecisionValue, request_code, joined_of}
 use Rattle.guards_model.specs.Modes.{down, is_up, is_joining}
-use Rattle.guards_runs.specs.Cycles.{Cycle, CycleStart, Agreement, CycleResult, Past, mode_in, held_start, ideal_after, opening_of, source_word, received_items, received_body, items_in, first_up, agreement_of, plan_of, decision_of, remaining_of, work_of, cycle_from, next_cycle, cycles_before, entries_of}
-use Rattle.guards_runs.specs.Due.{Carry, IsDue, carries_frames, is_sender, receivers, slot_carries, cycle_carries, owed, exchange_of, context_or_none, frame_of, due_bytes}
+use Rattle.guards_runs.specs.Cycles.{Cycle, CycleStart, Agreement, CycleResult, Past, held_start, ideal_after, source_word, received_items, received_body, items_in, first_up, agreement_of, plan_of, decision_of, remaining_of, work_of, cycle_from, next_cycle, cycles_before}
+use Rattle.guards_runs.specs.Due.{Carry, IsDue, carries_frames, is_sender, receivers, slot_carries, cycle_carries, exchange_of, context_or_none}
 use Rattle.guards_runs.specs.Promises.{EachCycle, HasRun}
 use Rattle.guards_runs.specs.SameFacts.{without_entries, HaveSameFacts}
 use Rattle.guards_model.proofs.BoolTests.{both, and_true, or_true, not_true}
-use Rattle.guards_model.proofs.Counting.{not_false}
 use Rattle.guards_model.proofs.Tables.{has-filter, has-channels_where}
 use Rattle.guards_model.proofs.AscendingLists.{member-channel, set-where}
 use Rattle.guards_model.proofs.Membership.{All-flat_map}

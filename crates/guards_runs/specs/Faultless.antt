@@ -1,5 +1,5 @@
 -- Runs without faults, over a bus that does what the script says.
-use Rattle.std.specs.Prelude.{◌≡◌, ℕ, Bool, true, false, List, ◌++◌}
+use Rattle.std.specs.Prelude.{◌≡◌, ℕ, Bool, true, false, ◌++◌}
 use Rattle.std.specs.List.{list_all, AllByRecursion}
 use Rattle.guards_model.specs.Faults.{FaultValue, restart}
 use Rattle.guards_model.specs.Missions.{MissionValue, bus_rules}

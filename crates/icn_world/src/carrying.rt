@@ -15,7 +15,8 @@ use guards_base::{Chan, ChanSet, Slot};
 use icn_bus::Bus;
 use slot_traffic::{Format, Receivers, Traffic};
 use std::alloc::{AllocError, Global};
-use world_traffic::{Delivered, every_channel, send_slot};
+use world_nodes::every_channel;
+use world_traffic::{Delivered, send_slot};
 
 // Charges the senders among these channels.
 fn charge_each(disturbance: &mut Disturbance, senders: ChanSet, channels: &[Chan])

@@ -17,7 +17,7 @@ use Rattle.guards_laws.proofs.DueEntries.{IsDueNow}
 use Rattle.guards_laws.proofs.LogGrows.{length-cycles_before}
 use Rattle.ideal_run.specs.Ideal.{ideal}
 use Rattle.ideal_run.specs.Report.{ideal_record, ideal_report, head, last, part, parts_below, record_text, record_with}
-use Rattle.ideal_laws.proofs.Calm.{CalmRun, calm_run, each_is_due, unremoved, untransferred, unjoined}
+use Rattle.guards_laws.proofs.NoFaults.{CalmRun, calm_run, each_is_due, unremoved, untransferred, unjoined}
 use Rattle.ideal_laws.proofs.QuietCycles.{active_all, ideal_is, lines_are}
 
 -- the part of a record, which does not tell of traces

@@ -1,3 +1,2 @@
-pub mod Calm
 pub mod QuietCycles
 pub mod IdealReports

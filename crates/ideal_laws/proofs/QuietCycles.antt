@@ -33,7 +33,7 @@ use Rattle.guards_laws.proofs.LogGrows.{length-cycles_before}
 use Rattle.guards_laws.proofs.WithinChannels.{channels_few}
 use Rattle.ideal_run.specs.Ideal.{ideal, ideal_inputs, sensed, sensed_at, sensed_word}
 use Rattle.ideal_run.specs.Report.{line_with}
-use Rattle.ideal_laws.proofs.Calm.{CalmRun, mode_here, active_set_is, active_here, undisturbed, agreed_on, unjudged, counts_are, uncounted}
+use Rattle.guards_laws.proofs.NoFaults.{CalmRun, mode_here, active_set_is, active_here, undisturbed, agreed_on, unjudged, counts_are, uncounted}
 
 -- ---- lists
 

@@ -8,8 +8,6 @@ use std::alloc::{AllocError, AllocFailed};
 /// What is wrong at a place of the mission.
 #[derive(Clone, Copy, Debug, PartialEq, Eq)]
 pub enum Cause {
-    /// It may be a mission, of a form that is not built yet.
-    Unbuilt,
     NotToml,
     Missing,
     WrongType,

@@ -63,7 +63,6 @@ bytes = \"00ff\"
 
 fn cause_name(cause: Cause) -> &'static str {
     match cause {
-        Cause::Unbuilt => "unbuilt",
         Cause::NotToml => "not-toml",
         Cause::Missing => "missing",
         Cause::WrongType => "wrong-type",

@@ -6,7 +6,6 @@ use Rattle.mission_checks.specs.declared.why.Cause.TheVariants as cause
 use Rattle.mission_checks.specs.declared.why.Why.{Why}
 
 abbrev pub cause_name : Cause → List ℕ
-cause_name cause.Unbuilt = codes "unbuilt"
 cause_name cause.NotToml = codes "not-toml"
 cause_name cause.Missing = codes "missing"
 cause_name cause.WrongType = codes "wrong-type"

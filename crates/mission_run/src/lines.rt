@@ -9,7 +9,6 @@ fn cause_name(cause: Cause) -> &'static str
     ensures { result.now ≡ cause_name cause }
 {
     match cause {
-        Cause::Unbuilt => "unbuilt",
         Cause::NotToml => "not-toml",
         Cause::Missing => "missing",
         Cause::WrongType => "wrong-type",

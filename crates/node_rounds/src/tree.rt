@@ -10,6 +10,7 @@ ghost use Rattle.guards_nodes.specs.NodeSteps.{Received, nothing_received, with_
 ghost use Rattle.oral_messages.specs.Received.{IsInRange, items_in};
 ghost use Rattle.node_rounds.specs.Trees.{IsTreeFor, word_from, has_places};
 
+use control_state::channel;
 use guards_base::{Chan, ChanSet, SourceWord};
 use icn_frames::Exchange;
 use oral_messages::Tree;
@@ -36,14 +37,6 @@ impl Model for RoundTree {
     ghost view = { λ t. seen_tree t.tree };
 
     ghost invariant = { λ t. IsOfTree t.active t.me t.width t.tree };
-}
-
-/// The channel with a number.
-fn channel(number: u8) -> Chan
-    requires { number < 7 }
-    ensures { result ≡ number }
-{
-    Chan::new(number).unwrap()
 }
 
 impl RoundTree {

@@ -1,19 +1,12 @@
 //! All channels.
-ghost use Rattle.std.specs.Prelude.{◌≡◌, ◌<◌};
+ghost use Rattle.std.specs.Prelude.{◌≡◌};
 ghost use Rattle.guards_model.specs.Channels.{every_channel};
 
+use control_state::channel;
 use guards_base::Chan;
 
-// The channel with this number.
-pub(crate) fn channel(number: u8) -> Chan
-    requires { number < 7 }
-    ensures { result ≡ number }
-{
-    Chan::new(number).unwrap()
-}
-
 /// Every channel that there can be, in order.
-pub(crate) fn every_channel() -> [Chan; 7]
+pub fn every_channel() -> [Chan; 7]
     ensures { result ≡ every_channel }
 {
     [

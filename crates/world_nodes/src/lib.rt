@@ -18,5 +18,6 @@ mod votes;
 mod work;
 
 pub use arrived::Arrived;
+pub use channels::every_channel;
 pub use nodes::Nodes;
 pub use votes::Lines;

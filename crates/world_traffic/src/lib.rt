@@ -1,10 +1,8 @@
 //! The traffic of a slot among the nodes of the world: what they send, and what arrives.
 #![tactic(auto)]
 
-mod channels;
 mod delivered;
 mod sending;
 
-pub use channels::every_channel;
 pub use delivered::Delivered;
 pub use sending::send_slot;

@@ -9,7 +9,6 @@ ghost use Rattle.slot_traffic.specs.Receiving.{receiver_numbers};
 ghost use Rattle.world_nodes.specs.NodeLists.{AllReceived, StandsAt};
 ghost use Rattle.world_traffic.specs.SlotSends.{MaySend, Sends, SendsSome, all_sends, has_targets, sends_by, sends_of};
 
-use crate::channels::every_channel;
 use channel_node::Node;
 use guards_base::{Chan, ChanSet, Slot};
 use icn_bus::Bus;
@@ -17,7 +16,7 @@ use icn_frames::Frame;
 use mission_type::Mission;
 use slot_traffic::{Receivers, Traffic};
 use std::alloc::{AllocError, Global};
-use world_nodes::Nodes;
+use world_nodes::{Nodes, every_channel};
 
 // Whether the frames of a slot have a target.
 fn has_targets(slot: Slot) -> bool
