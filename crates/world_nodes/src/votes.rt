@@ -5,9 +5,9 @@ ghost use Rattle.guards_model.specs.Network.{ballot_of};
 ghost use Rattle.world_nodes.specs.NodeLists.{ballots_at, with_votes, line_with, HasDecision};
 
 use crate::arrived::Arrived;
-use crate::channels::channel;
 use crate::nodes::Nodes;
 use channel_node::Node;
+use control_state::channel;
 use guards_base::{Ballot, Chan, ChannelLine, Mode, Sequence};
 use icn_frames::Body;
 use mission_type::Mission;
