@@ -1,0 +1,6 @@
+pub mod Sent
+pub mod SlotsAlike
+pub mod Charges
+pub mod FirstStops
+pub mod RunEnds
+pub mod Reports
