@@ -1,5 +1,5 @@
 -- A command is carried out to its end, unless memory runs out, a fault comes or a slot stops the run.
-use Rattle.std.proofs.Common.{◌≡◌, ◌≤◌, ◌<◌, ◌⊎◌, ◌+◌, ◌-◌, inl, inr, ℕ, zero, suc, Bool, List, [], ◌∷◌, ◌++◌, length, Option, Some, None, Result, Ok, Err, refl, sym, ap, subst, ◌∙◌, arith}
+use Rattle.std.proofs.Common.{◌≡◌, ◌≤◌, ◌⊎◌, ◌-◌, inl, inr, ℕ, Bool, List, ◌++◌, length, Some, None, Ok, refl, sym, ap, subst, ◌∙◌, arith}
 use Rattle.std.proofs.Math.Seq.{drop-append_seam}
 use Rattle.std.specs.Prelude.{drop}
 use Rattle.guards_io.specs.Causes.{Rose}
@@ -8,9 +8,9 @@ use Rattle.guards_model.specs.Missions.{MissionValue}
 use Rattle.guards_model.specs.Network.{EntryValue, Log}
 use Rattle.guards_model.specs.Rounds.{Histories}
 use Rattle.guards_model.specs.Texts.{StopValue}
-use Rattle.guards_runs.specs.Cycles.{cycles_before, cycle_at}
-use Rattle.guards_runs.specs.Disturbed.{stop_in, stop_of, first_of_two}
-use Rattle.guards_laws.proofs.LogGrows.{length-cycles_before}
+use Rattle.guards_runs.specs.Cycles.{cycles_before}
+use Rattle.guards_runs.specs.Disturbed.{stop_of}
+use Rattle.script_laws.proofs.RunEnds.{stop_stays}
 use Rattle.guards_world.specs.WorldCycle.{BusValue}
 use Rattle.demo_mission.specs.Demo.{demo_mission}
 use Rattle.mission_text.specs.Mission.{mission_of}
@@ -25,25 +25,12 @@ use Rattle.mission_run.specs.declared.input.TheConstants.{LIMIT}
 use Rattle.mission_run.specs.declared.status.Status.{Status}
 use Rattle.mission_run.specs.declared.status.Status.TheVariants.{Done, Usage, BadMission, TooLong, ReadFault, WriteFault, TooManyDisturbed, NoMemory}
 use Rattle.mission_run.specs.Reading.{OfMission, Tells}
-use Rattle.mission_run.specs.TopCall.{Outside, RunsMission, RunsDemo, Serves, Outcome, CompletesRun, CompletesCommand, Completes}
+use Rattle.mission_run.specs.TopCall.{Outside, RunsMission, RunsDemo, Serves, Outcome, CompletesCommand, Completes}
 use Rattle.mission_run.proofs.Complete.{refused_for_memory, same_mission, told_to_end}
 
 -- the entries of a run are those that the log grew by
 same_entries : (log K L : Log) → log ++ K ≡ log ++ L → K ≡ L
 same_entries log K L h = sym (drop-append_seam log K) ∙ ap (drop (length log)) h ∙ drop-append_seam log L
-
--- the first stop stays the first (as run_laws has it for the text)
-stop_stays : (M : MissionValue) (L : Log) (n : ℕ) (stop : StopValue) → stop_of (cycles_before M L n) ≡ None → stop_in n (cycle_at M L n) ≡ Some stop →
-    (k m : ℕ) → m ≡ n + suc k → stop_of (cycles_before M L m) ≡ Some stop
-stop_stays M L n stop unstopped stops zero m h =
-    let e : m ≡ suc n = omega (arith, h) in
-    rw e
-    (ap (λ o. first_of_two o (stop_in (length (cycles_before M L n)) (cycle_at M L n))) unstopped
-    ∙ ap (λ c. stop_in c (cycle_at M L n)) (length-cycles_before M L n) ∙ stops)
-stop_stays M L n stop unstopped stops (suc k) m h =
-    let e : m ≡ suc (n + suc k) = omega (arith, h) in
-    rw e
-    (ap (λ o. first_of_two o (stop_in (length (cycles_before M L (n + suc k))) (cycle_at M L (n + suc k)))) (stop_stays M L n stop unstopped stops k (n + suc k) refl))
 
 module _ (may : List RuleValue → EntryValue → Type 0) (M : MissionValue) (bus bus' : BusValue) where
   -- a run whose entries stop in no cycle does not stop

@@ -1,5 +1,5 @@
 -- A run over a bus whose rules were just loaded is a run from before.
-use Rattle.std.proofs.Common.{◌≡◌, ◌++◌, ◌⊎◌, inl, inr, ℕ, Bool, true, false, List, [], Result, Ok, Err, refl, sym, ap, ◌∙◌}
+use Rattle.std.proofs.Common.{◌≡◌, ◌++◌, inr, ℕ, Bool, true, false, List, [], Result, Ok, Err, refl, ap, ◌∙◌}
 use Rattle.std.specs.Prelude.{OnOk, OnErr, is_err}
 use Rattle.guards_model.specs.BusRules.{RuleValue}
 use Rattle.guards_model.specs.Missions.{MissionValue, IsMission, bus_rules}

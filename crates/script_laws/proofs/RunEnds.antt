@@ -114,7 +114,7 @@ stop_slot n e stop h = by (find (halts n e) every_slot) h
         ap (λ (s : StopValue). Some s.slot) same
 
 -- the first stop stays the first
-stop_stays : (M : MissionValue) (L : Log) (n : ℕ) (stop : StopValue) → stop_of (cycles_before M L n) ≡ None → stop_in n (cycle_at M L n) ≡ Some stop → (k m : ℕ) → m ≡ n + suc k →
+pub stop_stays : (M : MissionValue) (L : Log) (n : ℕ) (stop : StopValue) → stop_of (cycles_before M L n) ≡ None → stop_in n (cycle_at M L n) ≡ Some stop → (k m : ℕ) → m ≡ n + suc k →
     stop_of (cycles_before M L m) ≡ Some stop
 stop_stays M L n stop unstopped stops zero m h =
     let e : m ≡ suc n = omega (arith, h) in

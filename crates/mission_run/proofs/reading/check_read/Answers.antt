@@ -1,4 +1,4 @@
-use Rattle.std.proofs.Common.{◌≡◌, inr, subst}
+use Rattle.std.proofs.Common.{inr, subst}
 use Rattle.check_text.specs.Check.{check_of}
 use Rattle.ideal_run.specs.Writes.{SinkView, sink_view}
 use Rattle.mission_run.specs.Reading.{ReadsMission, Tells}
