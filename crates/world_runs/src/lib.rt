@@ -1,0 +1,19 @@
+//! Worked missions passed by the world, over both kinds of bus, as tests of the crate that it stands on.
+#![tactic(auto)]
+
+#[cfg(test)]
+mod drive;
+#[cfg(test)]
+mod meeting;
+#[cfg(test)]
+mod missions;
+#[cfg(test)]
+mod replay;
+#[cfg(test)]
+mod restoring_rows;
+#[cfg(test)]
+mod rows;
+#[cfg(test)]
+mod tests;
+#[cfg(test)]
+mod voting_rows;
