@@ -12,14 +12,29 @@ ghost use Rattle.node_rows.specs.Driven.{InRound};
 use crate::ready::is_ready;
 use crate::small::Plain;
 use channel_node::Node;
-use control_state::{Closed, Decision};
 use ctx_lock::OpenGate;
-use guards_base::{Ballot, Chan, ChannelLine, Mode};
+use guards_base::{Ballot, Chan, Mode};
 use icn_frames::{Exchange, Finals};
 use mission_type::Mission;
 use std::alloc::{AllocError, Global};
 use std::sync::Wait;
 use std::thread::Threads;
+
+/// A decision. Sets are masks: bit q is channel q.
+#[derive(Clone, Copy, PartialEq, Eq)]
+pub struct Decided {
+    pub judged: u8,
+    pub removed: u8,
+    pub started: bool,
+}
+
+/// What a vote answers: the first input and the first vote, and the counts.
+#[derive(Clone, Copy, PartialEq, Eq)]
+pub struct Voted {
+    pub input: i64,
+    pub vote: Option<i64>,
+    pub counts: [u32; 7],
+}
 
 /// Forms the source word of a cycle. True where the node runs, as one of at least three active channels.
 pub fn begin(
@@ -83,13 +98,18 @@ pub fn receive(node: &mut Node, round: u8, from: Chan, frame: Option<&Exchange>)
 }
 
 /// Decides by what was received in two rounds.
-pub fn decide(node: &mut Node, mission: &Mission, cycle: u32) -> Decision
+pub fn decide(node: &mut Node, mission: &Mission, cycle: u32) -> Decided
     requires rules { mission.now.rules ≡ node.old.rules }
     requires at { InRound 3 0 node.old }
     ensures rules { mission.now.rules ≡ node.new.rules }
     ensures decided { HasDecision node.new.state }
 {
-    node.decide(mission, cycle)
+    let decision = node.decide(mission, cycle);
+    Decided {
+        judged: decision.judged.mask(),
+        removed: decision.removed.mask(),
+        started: decision.started,
+    }
 }
 
 /// Works with the gate open.
@@ -109,22 +129,28 @@ pub fn work<R: Threads + Wait + Sync>(
 }
 
 /// Votes.
-pub fn take_votes(node: &mut Node, mission: &Mission, ballots: &[Option<Ballot>; 7]) -> ChannelLine
+pub fn take_votes(node: &mut Node, mission: &Mission, ballots: &[Option<Ballot>; 7]) -> Voted
     requires rules { mission.now.rules ≡ node.old.rules }
     requires decided { HasDecision node.old.state }
     ensures rules { mission.now.rules ≡ node.new.rules }
     ensures decided { HasDecision node.new.state }
 {
-    node.take_votes(mission, ballots)
+    let line = node.take_votes(mission, ballots);
+    Voted {
+        input: line.inputs[0],
+        vote: line.votes[0],
+        counts: line.alphas,
+    }
 }
 
-/// Closes the cycle.
-pub fn close(node: &mut Node, mission: &Mission, cycle: u32) -> Closed
+/// Closes the cycle. Answers how many blocks remain.
+pub fn close(node: &mut Node, mission: &Mission, cycle: u32) -> Option<u16>
     requires rules { mission.now.rules ≡ node.old.rules }
     requires decided { HasDecision node.old.state }
     ensures rules { mission.now.rules ≡ node.new.rules }
 {
-    node.close_cycle(mission, cycle)
+    let closed = node.close_cycle(mission, cycle);
+    closed.remaining
 }
 
 /// Takes the content of these frames and runs with it, where it joins and they give one.

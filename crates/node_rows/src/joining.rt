@@ -1,23 +1,22 @@
-//! A transfer, from the side of its target.
-ghost use Rattle.std.specs.Prelude.{◌≡◌, true, IfOk, IfSome};
+//! A transfer, from the side of its target, which is channel 3.
+ghost use Rattle.std.specs.Prelude.{◌≡◌, true, IfOk, OnOk};
 ghost use Rattle.std.specs.List.{list_all};
 ghost use Rattle.guards_model.specs.Frames.{counts_in_range};
 
 use crate::alone::rise;
-use crate::seen::{Seen, cycles};
-use crate::small::{first, mission, word};
-use crate::told::{joined, only};
+use crate::frames::asked;
+use crate::moments::well;
+use crate::seen::cycles;
+use crate::small::{first, word};
+use crate::told::{Asked, joined, only, source_word};
 use channel_node::Node;
 use context_blocks::Block;
 use guards_base::{Chan, ChanSet};
 use guards_model::Law;
-use icn_frames::{
-    BlockCopy, Body, ControlWord, Copies, FinalBody, Finals, Frame, SweepBody, Sweeps,
-};
+use icn_frames::{BlockCopy, ControlWord, Copies, FinalBody, Finals, SweepBody, Sweeps};
 use mission_type::Mission;
 use std::alloc::{AllocError, Global};
 use std::sync::Wait;
-use std::test::Fail;
 use std::thread::Threads;
 
 // The control after the join: all four channels are active, and 3 is fresh.
@@ -55,9 +54,9 @@ fn sweep(alloc: Global, one: BlockCopy, two: BlockCopy) -> Result<SweepBody, All
 // Three sweep frames, of which the last one is forged in its first block.
 fn sweeps(alloc: Global, one: BlockCopy, two: BlockCopy) -> Result<Sweeps, AllocError> {
     let mut frames = Sweeps::new(alloc);
-    frames.push(sweep(alloc, one, two)?)?;
-    frames.push(sweep(alloc, one, two)?)?;
-    frames.push(sweep(alloc, block(one.block, 99), two)?)?;
+    for first in [one, one, block(one.block, 99)] {
+        frames.push(sweep(alloc, first, two)?)?;
+    }
     Ok(frames)
 }
 
@@ -85,108 +84,90 @@ fn finals(alloc: Global, start: u32, words: [i64; 3]) -> Result<Finals, AllocErr
     Ok(frames)
 }
 
-// The node of channel 3 that begins to join.
-fn returning(alloc: Global, mission: &Mission) -> Result<Option<Node>, AllocError>
-    ensures { IfOk result (λ found. IfSome found (λ node. node.rules ≡ mission.now.rules)) }
+// The node crashed and was restarted, and passes the sweep slots of the cycles 3 and 4.
+fn fill(alloc: Global, node: &mut Node, mission: &Mission) -> Result<(), AllocError>
+    requires { mission.now.rules ≡ node.old.rules }
+    ensures { OnOk result (mission.now.rules ≡ node.new.rules) }
 {
-    let Some(mut node) = first(alloc, mission, 3)? else {
-        return Ok(None);
-    };
     node.crash();
     node.restart(alloc, mission.rules().blocks)?;
-    Ok(Some(node))
-}
-
-// What a frame asks for, where it is a request.
-fn asked(frame: Option<Frame>) -> Option<Option<u32>> {
-    match frame?.body {
-        Body::Request(have) => Some(have),
-        _ => None,
-    }
-}
-
-// The node of channel 3 after the sweep slots of the cycles 3 and 4.
-fn filled(alloc: Global, mission: &Mission) -> Result<Option<Node>, AllocError>
-    ensures { IfOk result (λ found. IfSome found (λ node. node.rules ≡ mission.now.rules)) }
-{
-    let Some(mut node) = returning(alloc, mission)? else {
-        return Ok(None);
-    };
     let first = sweeps(alloc, block(0, 18), block(1, 11))?;
     node.take_sweep(3, &first);
     let second = sweeps(alloc, block(2, 22), block(0, 24))?;
     node.take_sweep(4, &second);
-    Ok(Some(node))
+    Ok(())
 }
 
-// Whether the filled node takes these final frames, what it then asks for, and the first words of its blocks.
-fn ends(
+// Whether the filled node takes these final frames.
+fn took(
     alloc: Global,
+    node: &mut Node,
+    mission: &Mission,
     start: u32,
     words: [i64; 3],
-) -> Result<(bool, Option<Option<u32>>, [Option<i64>; 3]), AllocError> {
-    let Some(mission) = mission(alloc) else {
-        return Ok((false, None, [None; 3]));
-    };
-    let Some(mut node) = filled(alloc, &mission)? else {
-        return Ok((false, None, [None; 3]));
-    };
+) -> Result<bool, AllocError>
+    requires { mission.now.rules ≡ node.old.rules }
+    ensures { OnOk result (mission.now.rules ≡ node.new.rules) }
+{
+    fill(alloc, node, mission)?;
     let frames = finals(alloc, start, words)?;
-    let took = rise(&mut node, &frames);
-    Ok((
-        took,
-        asked(node.request(5)),
-        [word(&node, 0), word(&node, 1), word(&node, 2)],
-    ))
+    Ok(rise(node, &frames))
 }
 
-#[test]
-fn a_target_takes_the_content_that_most_have(rt: HostRuntime) -> Result<(), Fail> {
-    let whole = [Some(30), Some(11), Some(22)];
-    assert!(rt; ends(rt.alloc(), 3, [30, 99, 30])? == (true, None, whole));
-    // of another transfer, and without a majority
-    assert!(rt; ends(rt.alloc(), 2, [30, 30, 30])? == (false, Some(Some(3)), [None; 3]));
-    assert!(rt; ends(rt.alloc(), 3, [30, 31, 32])? == (false, Some(Some(3)), [None; 3]));
-    Ok(())
-}
-
-// The cycle of channel 3 after its join.
-fn first_cycle<R: Threads + Wait + Sync>(
+// Whether the node takes the content that most have, and goes on with it.
+fn goes_on<R: Threads + Wait + Sync>(
     rt: &R,
     alloc: Global,
-) -> Result<Option<Seen>, AllocError> {
-    let Some(mission) = mission(alloc) else {
-        return Ok(None);
-    };
-    let Some(mut node) = filled(alloc, &mission)? else {
-        return Ok(None);
-    };
-    let frames = finals(alloc, 3, [30, 30, 30])?;
-    let _ = rise(&mut node, &frames);
-    let seen = cycles(rt, alloc, &mut node, &mission, 5, &[joined()])?;
-    Ok(seen)
+    node: &mut Node,
+    mission: &Mission,
+) -> Result<bool, AllocError>
+    requires { mission.now.rules ≡ node.old.rules }
+{
+    if !took(alloc, node, mission, 3, [30, 99, 30])? {
+        return Ok(false);
+    }
+    let taken = [word(node, 0), word(node, 1), word(node, 2)];
+    let mut seen = well(36);
+    seen.own = Some(source_word(8, ChanSet::empty(), Asked::No));
+    seen.relayed = Some((3, Some(7)));
+    let last = cycles(rt, alloc, node, mission, 5, &[joined()])?;
+    Ok(taken == [Some(30), Some(11), Some(22)] && last == Some(seen))
 }
 
-#[test]
-fn a_joined_channel_goes_on(rt: HostRuntime) -> Result<(), Fail> {
-    let seen = Seen {
-        sensor: Some(8),
-        accuse: 0,
-        heard: [0; 7],
-        relayed: Some((3, Some(7))),
-        judged: 0,
-        removed: 0,
-        started: false,
-        vote: Some(36),
-        input: 6,
-        voted: Some(36),
-        counts: [0; 7],
-        sweep: None,
-        last: None,
-        remaining: None,
-        next: Some(15),
-        words: [Some(36), Some(11), Some(22)],
-    };
-    assert!(rt; first_cycle(&rt, rt.alloc())? == Some(seen));
-    Ok(())
+pub fn a_target_takes_the_content_that_most_have<R: Threads + Wait + Sync>(
+    rt: &R,
+    alloc: Global,
+    mission: &Mission,
+) -> Result<bool, AllocError> {
+    match first(alloc, mission, 3)? {
+        Some(mut node) => goes_on(rt, alloc, &mut node, mission),
+        None => Ok(false),
+    }
+}
+
+// Whether the node does not take these final frames, and asks again.
+fn asks_again(
+    alloc: Global,
+    node: &mut Node,
+    mission: &Mission,
+    start: u32,
+    words: [i64; 3],
+) -> Result<bool, AllocError>
+    requires { mission.now.rules ≡ node.old.rules }
+{
+    let took = took(alloc, node, mission, start, words)?;
+    Ok(!took && asked(node.request(5)) == Some(Some(3)) && node.context().is_none())
+}
+
+/// Neither those of another transfer, nor those of which no content has a majority.
+pub fn a_target_takes_no_other_content(
+    alloc: Global,
+    mission: &Mission,
+    start: u32,
+    words: [i64; 3],
+) -> Result<bool, AllocError> {
+    match first(alloc, mission, 3)? {
+        Some(mut node) => asks_again(alloc, &mut node, mission, start, words),
+        None => Ok(false),
+    }
 }

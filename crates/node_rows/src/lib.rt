@@ -6,11 +6,17 @@ mod alone;
 #[cfg(test)]
 mod cycle;
 #[cfg(test)]
+mod frames;
+#[cfg(test)]
 mod joining;
 #[cfg(test)]
 mod moments;
 #[cfg(test)]
 mod ready;
+#[cfg(test)]
+mod refused;
+#[cfg(test)]
+mod resting;
 #[cfg(test)]
 mod seen;
 #[cfg(test)]

@@ -1,161 +1,173 @@
-//! What a node does in cycles without and with faults. The expected values are worked out by hand.
-use crate::alone::work;
-use crate::cycle::exchange;
-use crate::seen::{Seen, after};
-use crate::small::{first, mission, word};
-use crate::told::{Told, only, transfer};
-use guards_base::Mode;
+//! What channel 1 does in cycles without and with faults. The expected values are worked out by hand.
+use crate::alone::{Decided, Voted};
+use crate::seen::{Copied, Seen, after};
+use crate::told::{Asked, Told, only, source_word, transfer};
+use guards_base::ChanSet;
+use mission_type::Mission;
 use std::alloc::{AllocError, Global};
 use std::sync::Wait;
-use std::test::Fail;
 use std::thread::Threads;
 
-// What channel 1 does where nothing is wrong: its word is 6, as is the input.
-fn well(vote: i64) -> Seen {
-    Seen {
-        sensor: Some(6),
-        accuse: 0,
-        heard: [0; 7],
-        relayed: Some((3, Some(8))),
-        judged: 0,
-        removed: 0,
-        started: false,
-        vote: Some(vote),
+// Nobody is judged or removed, and no transfer starts.
+const NOTHING: Decided = Decided {
+    judged: 0,
+    removed: 0,
+    started: false,
+};
+
+// A vote with these counts. The input is 6.
+fn voted(vote: i64, counts: [u32; 7]) -> Voted {
+    Voted {
         input: 6,
-        voted: Some(vote),
-        counts: [0; 7],
+        vote: Some(vote),
+        counts,
+    }
+}
+
+/// What channel 1 does where nothing is wrong: its word is 6, as is the input.
+pub fn well(vote: i64) -> Seen {
+    Seen {
+        own: Some(source_word(6, ChanSet::empty(), Asked::No)),
+        relayed: Some((3, Some(8))),
+        decided: NOTHING,
+        vote: Some(vote),
+        voted: voted(vote, [0; 7]),
         sweep: None,
-        last: None,
         remaining: None,
+        last: None,
         next: Some(15),
         words: [Some(vote), Some(11), Some(22)],
     }
 }
 
-#[test]
-fn cycles_without_faults(rt: HostRuntime) -> Result<(), Fail> {
-    let told = [Told::plain(4, 6), Told::plain(4, 12)];
-    assert!(rt; after(&rt, rt.alloc(), 1, &told[..1])? == Some(well(6)));
-    assert!(rt; after(&rt, rt.alloc(), 1, &told)? == Some(well(12)));
-    Ok(())
+// Whether channel 1 shows this after its first cycles.
+fn shows<R: Threads + Wait + Sync>(
+    rt: &R,
+    alloc: Global,
+    mission: &Mission,
+    told: &[Told],
+    seen: Seen,
+) -> Result<bool, AllocError> {
+    let last = after(rt, alloc, mission, told)?;
+    Ok(last == Some(seen))
 }
 
-#[test]
-fn forged_frames_are_outvoted(rt: HostRuntime) -> Result<(), Fail> {
-    let mut forged = Told::plain(4, 6);
-    forged.forged = Some(3);
-    let told = [forged, Told::plain(4, 12)];
-    // it tells on what it was told, and decides by what most were told
+pub fn without_faults<R: Threads + Wait + Sync>(
+    rt: &R,
+    alloc: Global,
+    mission: &Mission,
+) -> Result<bool, AllocError> {
+    let told = [Told::plain(4, 6), Told::plain(4, 12)];
+    let one = shows(rt, alloc, mission, &told[..1], well(6))?;
+    let two = shows(rt, alloc, mission, &told, well(12))?;
+    Ok(one && two)
+}
+
+/// It tells on what it was told, and decides by what most were told. It accuses by the forged vote; one accuser does not
+/// judge.
+pub fn forged_frames_are_outvoted<R: Threads + Wait + Sync>(
+    rt: &R,
+    alloc: Global,
+    mission: &Mission,
+) -> Result<bool, AllocError> {
+    let mut told = [Told::plain(4, 6), Told::plain(4, 12)];
+    told[0].forged = Some(3);
     let mut first = well(6);
     first.relayed = Some((3, Some(99)));
-    assert!(rt; after(&rt, rt.alloc(), 1, &told[..1])? == Some(first));
-    // it accuses by the forged vote; one accuser does not judge
     let mut second = well(12);
-    second.accuse = 8;
-    assert!(rt; after(&rt, rt.alloc(), 1, &told)? == Some(second));
-    Ok(())
+    second.own = Some(source_word(6, only(3), Asked::No));
+    let one = shows(rt, alloc, mission, &told[..1], first)?;
+    let two = shows(rt, alloc, mission, &told, second)?;
+    Ok(one && two)
 }
 
-#[test]
-fn a_lost_channel_is_removed(rt: HostRuntime) -> Result<(), Fail> {
+pub fn a_lost_channel_is_removed<R: Threads + Wait + Sync>(
+    rt: &R,
+    alloc: Global,
+    mission: &Mission,
+) -> Result<bool, AllocError> {
     let told = transfer();
     let mut first = well(6);
     first.relayed = Some((3, None));
-    first.judged = 8;
-    first.counts = [0, 0, 0, 65536, 0, 0, 0];
-    assert!(rt; after(&rt, rt.alloc(), 1, &told[..1])? == Some(first));
+    first.decided.judged = 8;
+    first.voted = voted(6, [0, 0, 0, 65536, 0, 0, 0]);
     let mut second = well(12);
-    second.accuse = 8;
-    second.judged = 8;
-    second.removed = 8;
-    second.counts = [0, 0, 0, 131072, 0, 0, 0];
+    second.own = Some(source_word(6, only(3), Asked::No));
+    second.decided.judged = 8;
+    second.decided.removed = 8;
+    second.voted = voted(12, [0, 0, 0, 131072, 0, 0, 0]);
     second.next = Some(7);
-    assert!(rt; after(&rt, rt.alloc(), 1, &told[..2])? == Some(second));
-    Ok(())
+    let one = shows(rt, alloc, mission, &told[..1], first)?;
+    let two = shows(rt, alloc, mission, &told[..2], second)?;
+    Ok(one && two)
 }
 
 // What channel 1 does with three active channels: there is no second round.
-fn of_three(vote: i64) -> Seen {
+fn of_three(vote: i64, asked: Asked) -> Seen {
     let mut seen = well(vote);
+    seen.own = Some(source_word(6, ChanSet::empty(), asked));
     seen.relayed = None;
     seen.next = Some(7);
     seen
 }
 
-#[test]
-fn a_sender_carries_a_transfer_to_its_join(rt: HostRuntime) -> Result<(), Fail> {
+/// The first request is heard. It stands, so a transfer starts, with two of three blocks; the written one remains besides
+/// the third.
+pub fn a_sender_starts_a_transfer<R: Threads + Wait + Sync>(
+    rt: &R,
+    alloc: Global,
+    mission: &Mission,
+) -> Result<bool, AllocError> {
     let told = transfer();
-    // the first request is heard
-    assert!(rt; after(&rt, rt.alloc(), 1, &told[..3])? == Some(of_three(18)));
-    // it stands: a transfer starts, with two of three blocks; the written one remains besides the third
-    let mut starts = of_three(24);
-    starts.heard = [0, 0, 0, 1, 0, 0, 0];
-    starts.started = true;
-    starts.sweep = Some((3, [Some(0), Some(1)]));
+    let mut starts = of_three(24, Asked::First);
+    starts.decided.started = true;
+    starts.sweep = Some(Copied {
+        start: 3,
+        blocks: [Some(0), Some(1)],
+    });
     starts.remaining = Some(2);
-    assert!(rt; after(&rt, rt.alloc(), 1, &told[..4])? == Some(starts));
-    // only the written block remains, which the final frame carries
-    let mut joins = of_three(30);
-    joins.heard = [0, 0, 0, 1, 0, 0, 0];
-    joins.sweep = Some((3, [Some(2), Some(0)]));
-    joins.last = Some((3, [Some(0), None]));
-    joins.remaining = Some(1);
-    joins.next = Some(15);
-    assert!(rt; after(&rt, rt.alloc(), 1, &told[..5])? == Some(joins));
-    // the last request of a fresh channel does not remove it
-    let mut goes_on = well(36);
-    goes_on.heard = [0, 0, 0, 2, 0, 0, 0];
-    assert!(rt; after(&rt, rt.alloc(), 1, &told)? == Some(goes_on));
-    Ok(())
+    let one = shows(rt, alloc, mission, &told[..3], of_three(18, Asked::No))?;
+    let two = shows(rt, alloc, mission, &told[..4], starts)?;
+    Ok(one && two)
 }
 
-#[test]
-fn a_node_that_all_accuse_removes_itself(rt: HostRuntime) -> Result<(), Fail> {
+/// Only the written block remains, which the final frame carries. The last request of a fresh channel does not remove it.
+pub fn a_sender_ends_a_transfer<R: Threads + Wait + Sync>(
+    rt: &R,
+    alloc: Global,
+    mission: &Mission,
+) -> Result<bool, AllocError> {
+    let told = transfer();
+    let mut joins = of_three(30, Asked::First);
+    joins.sweep = Some(Copied {
+        start: 3,
+        blocks: [Some(2), Some(0)],
+    });
+    joins.last = Some(Copied {
+        start: 3,
+        blocks: [Some(0), None],
+    });
+    joins.remaining = Some(1);
+    joins.next = Some(15);
+    let mut goes_on = well(36);
+    goes_on.own = Some(source_word(6, ChanSet::empty(), Asked::Named));
+    let one = shows(rt, alloc, mission, &told[..5], joins)?;
+    let two = shows(rt, alloc, mission, &told, goes_on)?;
+    Ok(one && two)
+}
+
+pub fn a_node_that_all_accuse_removes_itself<R: Threads + Wait + Sync>(
+    rt: &R,
+    alloc: Global,
+    mission: &Mission,
+) -> Result<bool, AllocError> {
     let mut told = [Told::plain(4, 6), Told::plain(4, 12)];
     told[0].accused = only(1);
     told[1].accused = only(1);
     let mut removed = well(12);
-    removed.judged = 2;
-    removed.removed = 2;
-    removed.counts = [0, 131072, 0, 0, 0, 0, 0];
+    removed.decided.judged = 2;
+    removed.decided.removed = 2;
+    removed.voted = voted(12, [0, 131072, 0, 0, 0, 0, 0]);
     removed.next = Some(13);
-    assert!(rt; after(&rt, rt.alloc(), 1, &told)? == Some(removed));
-    Ok(())
-}
-
-#[test]
-fn a_switched_off_node_waits(rt: HostRuntime) -> Result<(), Fail> {
-    let mission = mission(rt.alloc()).ok_or("a mission")?;
-    let mut node = first(rt.alloc(), &mission, 1)?.ok_or("a node")?;
-    node.reset();
-    assert!(rt; node.mode() == Mode::Waiting && node.context().is_none());
-    assert!(rt; node.request(2).is_none() && node.switch_frame(2).is_none());
-    Ok(())
-}
-
-// Whether a round was worked; where it was refused for want of memory the context is as before, and so is the history.
-fn is_worked_or_refused<R: Threads + Wait + Sync>(
-    rt: &R,
-    alloc: Global,
-) -> Result<bool, AllocError> {
-    let Some(mission) = mission(alloc) else {
-        return Ok(false);
-    };
-    let Some(mut node) = first(alloc, &mission, 1)? else {
-        return Ok(false);
-    };
-    let Some(_decided) = exchange(alloc, &mut node, &mission, 0, &Told::plain(4, 6))? else {
-        return Ok(false);
-    };
-    match work(rt, alloc, &mut node, &mission, 0) {
-        Ok(()) => Ok(word(&node, 0) == Some(6) && node.history().is_some()),
-        Err(_refused) => Ok(word(&node, 0) == Some(0) && node.history().is_none()),
-    }
-}
-
-// In the gate the round is worked. `rt try --test --fail-alloc 1..` has each allocation fail in turn.
-#[test]
-fn a_refused_round_leaves_the_context(rt: HostRuntime) -> Result<(), Fail> {
-    assert!(rt; is_worked_or_refused(&rt, rt.alloc())?);
-    Ok(())
+    shows(rt, alloc, mission, &told, removed)
 }

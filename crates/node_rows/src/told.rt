@@ -29,6 +29,21 @@ pub struct Told {
     pub request: Option<Option<u32>>,
 }
 
+/// A source word: its sensor word, whom it accuses, and how it tells of channel 3.
+pub fn source_word(sensor: i64, accuse: ChanSet, asked: Asked) -> SourceWord {
+    let code = match asked {
+        Asked::No => 0,
+        Asked::First => 1,
+        Asked::Named => 2,
+    };
+    SourceWord {
+        width: 1,
+        words: [sensor, 0, 0, 0],
+        accuse,
+        heard: [0, 0, 0, code, 0, 0, 0],
+    }
+}
+
 impl Told {
     /// All tell what they should.
     pub fn plain(count: u8, vote: i64) -> Told {
@@ -45,26 +60,7 @@ impl Told {
 
     // A source word with this sensor word.
     fn source(&self, sensor: i64) -> SourceWord {
-        match self.asked {
-            Asked::No => SourceWord {
-                width: 1,
-                words: [sensor, 0, 0, 0],
-                accuse: self.accused,
-                heard: [0, 0, 0, 0, 0, 0, 0],
-            },
-            Asked::First => SourceWord {
-                width: 1,
-                words: [sensor, 0, 0, 0],
-                accuse: self.accused,
-                heard: [0, 0, 0, 1, 0, 0, 0],
-            },
-            Asked::Named => SourceWord {
-                width: 1,
-                words: [sensor, 0, 0, 0],
-                accuse: self.accused,
-                heard: [0, 0, 0, 2, 0, 0, 0],
-            },
-        }
+        source_word(sensor, self.accused, self.asked)
     }
 
     // What every channel but this one was told of a source.
