@@ -8,5 +8,5 @@ mod votes;
 mod writing;
 
 pub use machine::run_cycle;
-pub use output::{WriteStop, write_all};
+pub use output::{WriteStop, put, write_all};
 pub use writing::write_report;

@@ -2,7 +2,7 @@
 ghost use Rattle.std.specs.Prelude.{OnOk, OnErr};
 ghost use Rattle.std.specs.Io.KnownBytes.{Appends};
 ghost use Rattle.guards_io.specs.Causes.{HasCause};
-ghost use Rattle.ideal_run.specs.Writes.{AppendsPart};
+ghost use Rattle.ideal_run.specs.Writes.{AppendsPart, Writes, sink_view};
 
 use guards_io::{Failed, Sink};
 
@@ -26,4 +26,15 @@ pub fn write_all<K: Sink>(out: &mut K, piece: &[u8]) -> Result<(), Failed>
         (_, rest) = rest.split_at(count);
     }
     Ok(())
+}
+
+/// Writes one part. A part without bytes is not given.
+pub fn put<K: Sink>(out: &mut K, part: &str) -> Result<(), WriteStop>
+    ensures { Writes (sink_view (K.written out.old) (K.faults out.old))
+        (sink_view (K.written out.new) (K.faults out.new)) part.now result }
+{
+    match write_all(out, part.as_bytes()) {
+        Ok(()) => Ok(()),
+        Err(_) => Err(WriteStop::Failed),
+    }
 }

@@ -4,24 +4,13 @@ ghost use Rattle.ideal_run.specs.Ideal.{ideal};
 ghost use Rattle.ideal_run.specs.Report.{head, last, part, parts_below, ideal_report};
 ghost use Rattle.ideal_run.specs.Writes.{Writes, sink_view};
 
-use crate::output::{WriteStop, write_all};
+use crate::output::{WriteStop, put};
 use crate::records::{cycle_text, head, last};
 use context_blocks::Context;
 use guards_io::Sink;
 use mission_type::Mission;
 use native_calls::Calls;
 use std::alloc::Global;
-
-/// Writes one part.
-fn put<K: Sink>(out: &mut K, part: &str) -> Result<(), WriteStop>
-    ensures { Writes (sink_view (K.written out.old) (K.faults out.old))
-        (sink_view (K.written out.new) (K.faults out.new)) part.now result }
-{
-    match write_all(out, part.as_bytes()) {
-        Ok(()) => Ok(()),
-        Err(_) => Err(WriteStop::Failed),
-    }
-}
 
 /// Runs a cycle, and writes its part.
 #[tactic(auto, using(crate::proofs::WritesLemmas::nothing_written))]

@@ -10,7 +10,7 @@ use Rattle.guards_model.specs.Rounds.{Histories}
 use Rattle.guards_model.specs.Texts.{StopValue}
 use Rattle.guards_runs.specs.Cycles.{cycles_before}
 use Rattle.guards_runs.specs.Disturbed.{stop_of}
-use Rattle.script_laws.proofs.RunEnds.{stop_stays}
+use Rattle.guards_laws.proofs.FirstStop.{stop_stays}
 use Rattle.guards_world.specs.WorldCycle.{BusValue}
 use Rattle.demo_mission.specs.Demo.{demo_mission}
 use Rattle.mission_text.specs.Mission.{mission_of}

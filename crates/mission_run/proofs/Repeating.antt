@@ -17,7 +17,7 @@ use Rattle.guards_runs.specs.Promises.{IsRun}
 use Rattle.guards_runs.specs.Report.{report}
 use Rattle.guards_laws.proofs.LogGrows.{length-cycles_before}
 use Rattle.script_laws.specs.Scripts.{ForgesNoSweep, StopsAt, IsScriptedRun}
-use Rattle.script_laws.proofs.RunEnds.{stop_stays}
+use Rattle.guards_laws.proofs.FirstStop.{stop_stays}
 use Rattle.script_laws.proofs.Reports.{stops_alike, reports_alike}
 use Rattle.guards_world.specs.WorldCycle.{BusValue}
 use Rattle.run_laws.specs.Runs.{Ran, RanCycles, RanToStop}

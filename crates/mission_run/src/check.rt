@@ -6,21 +6,10 @@ ghost use Rattle.ideal_run.specs.Writes.{Writes, sink_view};
 
 use check_text::{head_text, row_text};
 use guards_io::Sink;
-use ideal_run::{WriteStop, write_all};
+use ideal_run::{WriteStop, put};
 use mission_type::Mission;
 use std::alloc::Global;
 use task_table::Table;
-
-/// Writes one part. A part without bytes is not given.
-fn put<K: Sink>(out: &mut K, part: &str) -> Result<(), WriteStop>
-    ensures { Writes (sink_view (K.written out.old) (K.faults out.old))
-        (sink_view (K.written out.new) (K.faults out.new)) part.now result }
-{
-    match write_all(out, part.as_bytes()) {
-        Ok(()) => Ok(()),
-        Err(_) => Err(WriteStop::Failed),
-    }
-}
 
 /// Writes the first four lines.
 #[tactic(auto, using(ideal_run::proofs::WritesLemmas::nothing_written))]

@@ -1,5 +1,5 @@
 -- The text of a run is that of its cycles, and the last line.
-use Rattle.std.proofs.Common.{◌≡◌, ◌<◌, ◌+◌, ◌-◌, ℕ, zero, suc, Bool, true, false, List, [], ◌∷◌, ◌++◌, length, Option, Some, None, refl, sym, ap, subst, ◌∙◌, arith}
+use Rattle.std.proofs.Common.{◌≡◌, ◌<◌, ◌+◌, ◌-◌, ℕ, zero, suc, Bool, true, false, List, [], ◌∷◌, ◌++◌, Option, Some, None, refl, sym, ap, subst, ◌∙◌, arith}
 use Rattle.std.specs.Prelude.{is_some, if◌then◌else◌}
 use Rattle.std.proofs.lemmas.List.{append-nil}
 use Rattle.std.proofs.lemmas.Grind.{flat_map-append}
@@ -8,8 +8,9 @@ use Rattle.guards_model.specs.Network.{Log}
 use Rattle.guards_model.specs.Rounds.{Steps, Histories}
 use Rattle.guards_model.specs.Texts.{TextValue, Part, StopValue, text_of, part_text, cycle_part, head_line, last_line, done_line, stop_line}
 use Rattle.guards_runs.specs.Cycles.{Past, cycles_before, cycle_at, this_cycle}
-use Rattle.guards_runs.specs.Disturbed.{stop_in, stop_of, first_of_two}
+use Rattle.guards_runs.specs.Disturbed.{stop_in, stop_of}
 use Rattle.guards_runs.specs.Report.{cycle_record, cycle_parts, parts_of, told_cycles, told_histories, earlier_steps, latest_steps, report, report_parts, traced, traced_parts}
+use Rattle.guards_laws.proofs.FirstStop.{stop_stays, told_whole}
 use Rattle.guards_laws.proofs.LogGrows.{length-cycles_before}
 use Rattle.run_laws.specs.Runs.{parts_so_far, run_text, with_unfinished}
 
@@ -38,46 +39,30 @@ text_and_line parts line = text_more parts (line ∷ []) ∙ ap (λ text. text_o
 
 -- ---- what is told
 
-told_whole : (past : Past) → stop_of past ≡ None → told_cycles past ≡ past
-told_whole [] h = refl
-told_whole (e ∷ past) h = ap (λ o. if is_some o then told_cycles past else e ∷ past) h
-
 histories_whole : (past : Past) (hs : Histories) → stop_of past ≡ None → told_histories past hs ≡ hs
 histories_whole [] hs h = refl
 histories_whole (e ∷ past) hs h = ap (λ o. if is_some o then told_histories past (earlier_steps hs) else hs) h
 
 module _ (M : MissionValue) (L : Log) (n : ℕ) (stop : StopValue) (unstopped : stop_of (cycles_before M L n) ≡ None) (stops : stop_in n (cycle_at M L n) ≡ Some stop) where
-  -- the first stop stays the first
-  stop_stays : (k m : ℕ) → m ≡ n + suc k → stop_of (cycles_before M L m) ≡ Some stop
-  stop_stays zero m h =
-      let e : m ≡ suc n = omega (arith, h) in
-      rw e
-      (ap (λ o. first_of_two o (stop_in (length (cycles_before M L n)) (cycle_at M L n))) unstopped
-      ∙ ap (λ c. stop_in c (cycle_at M L n)) (length-cycles_before M L n) ∙ stops)
-  stop_stays (suc k) m h =
-      let e : m ≡ suc (n + suc k) = omega (arith, h) in
-      rw e
-      (ap (λ o. first_of_two o (stop_in (length (cycles_before M L (n + suc k))) (cycle_at M L (n + suc k)))) (stop_stays k (n + suc k) refl))
-
-  -- and the cycles before it are told, with their histories
+  -- the cycles before the stop are told, with their histories
   told : (k m : ℕ) → m ≡ n + suc k → told_cycles (cycles_before M L m) ≡ cycles_before M L n
   told zero m h =
       let e : m ≡ suc n = omega (arith, h) in
-      let stopped : stop_of (cycles_before M L (suc n)) ≡ Some stop = stop_stays zero (suc n) (omega arith) in
+      let stopped : stop_of (cycles_before M L (suc n)) ≡ Some stop = stop_stays M L n stop unstopped stops zero (suc n) (omega arith) in
       rw e (ap (λ o. if is_some o then told_cycles (cycles_before M L n) else cycles_before M L (suc n)) stopped ∙ told_whole (cycles_before M L n) unstopped)
   told (suc k) m h =
       let e : m ≡ suc (n + suc k) = omega (arith, h) in
-      let stopped : stop_of (cycles_before M L (suc (n + suc k))) ≡ Some stop = stop_stays (suc k) (suc (n + suc k)) (omega arith) in
+      let stopped : stop_of (cycles_before M L (suc (n + suc k))) ≡ Some stop = stop_stays M L n stop unstopped stops (suc k) (suc (n + suc k)) (omega arith) in
       rw e (ap (λ o. if is_some o then told_cycles (cycles_before M L (n + suc k)) else cycles_before M L (suc (n + suc k))) stopped ∙ told k (n + suc k) refl)
 
   beside : (hs : Histories) (k m : ℕ) → m ≡ n + suc k → told_histories (cycles_before M L m) (with_unfinished (suc k) hs) ≡ hs
   beside hs zero m h =
       let e : m ≡ suc n = omega (arith, h) in
-      let stopped : stop_of (cycles_before M L (suc n)) ≡ Some stop = stop_stays zero (suc n) (omega arith) in
+      let stopped : stop_of (cycles_before M L (suc n)) ≡ Some stop = stop_stays M L n stop unstopped stops zero (suc n) (omega arith) in
       rw e (ap (λ o. if is_some o then told_histories (cycles_before M L n) hs else with_unfinished 1 hs) stopped ∙ histories_whole (cycles_before M L n) hs unstopped)
   beside hs (suc k) m h =
       let e : m ≡ suc (n + suc k) = omega (arith, h) in
-      let stopped : stop_of (cycles_before M L (suc (n + suc k))) ≡ Some stop = stop_stays (suc k) (suc (n + suc k)) (omega arith) in
+      let stopped : stop_of (cycles_before M L (suc (n + suc k))) ≡ Some stop = stop_stays M L n stop unstopped stops (suc k) (suc (n + suc k)) (omega arith) in
       rw e (ap (λ o. if is_some o then told_histories (cycles_before M L (n + suc k)) (with_unfinished (suc k) hs) else with_unfinished (suc (suc k)) hs) stopped ∙ beside hs k (n + suc k) refl)
 
 -- ---- whole texts

@@ -21,7 +21,7 @@ use Rattle.guards_runs.specs.Due.{Carry, IsDue, AtSomePlaces, owed, due_bytes, o
 use Rattle.guards_model.proofs.BoolTests.{both, and_true, differ}
 use Rattle.guards_model.proofs.SlotTests.{same_slot-equal}
 use Rattle.guards_model.proofs.Membership.{found-any}
-use Rattle.guards_laws.proofs.SamePast.{same_size}
+use Rattle.script_laws.proofs.SamePast.{same_size}
 use Rattle.script_laws.specs.Scripts.{ForgesNoSweep}
 use Rattle.script_laws.proofs.Sent.{is_sent, IsSentAt, carry, all_sent, found_if}
 use Rattle.script_laws.proofs.SlotsAlike.{InBoth, AreBesides, all_of_find, bytes_same, same_start, sent_same, owed_same, earlier}

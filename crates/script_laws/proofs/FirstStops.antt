@@ -14,7 +14,7 @@ use Rattle.guards_runs.specs.Cycles.{Cycle, CycleStart, Past, next_cycle}
 use Rattle.guards_runs.specs.Disturbed.{disturbed_channels, halts, stop_in}
 use Rattle.guards_model.proofs.BoolTests.{both}
 use Rattle.guards_model.proofs.SlotTests.{up_to-trans}
-use Rattle.guards_laws.proofs.SamePast.{same_size}
+use Rattle.script_laws.proofs.SamePast.{same_size}
 use Rattle.script_laws.specs.Scripts.{ForgesNoSweep}
 use Rattle.script_laws.proofs.SlotsAlike.{InBoth, AreBesides, same_start}
 use Rattle.script_laws.proofs.Charges.{swapped, disturbed_same, halts_same}

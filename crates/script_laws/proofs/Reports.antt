@@ -15,7 +15,8 @@ use Rattle.guards_runs.specs.Disturbed.{disturbed_channels, stop_in, stop_of, fi
 use Rattle.guards_runs.specs.Report.{cycle_record, cycle_parts, parts_of, told_cycles, told_histories, run_parts, report_parts, report}
 use Rattle.guards_runs.specs.SameFacts.{without_entries, HaveSameFacts}
 use Rattle.guards_laws.proofs.DueEntries.{entries_now}
-use Rattle.guards_laws.proofs.SamePast.{bare, size_bare}
+use Rattle.guards_laws.proofs.FirstStop.{told_whole}
+use Rattle.script_laws.proofs.SamePast.{bare, size_bare}
 use Rattle.guards_laws.proofs.Unsent.{All-filter}
 use Rattle.script_laws.specs.Scripts.{ForgesNoSweep, IsScriptedRun}
 use Rattle.script_laws.proofs.SlotsAlike.{AreBesides, cycle_same}
@@ -23,10 +24,6 @@ use Rattle.script_laws.proofs.FirstStops.{ComesTo, stops_same}
 use Rattle.script_laws.proofs.RunEnds.{Reaches, reaches}
 
 -- ---- what is told
-
-told_whole : (P : Past) → stop_of P ≡ None → told_cycles P ≡ P
-told_whole [] h = refl
-told_whole (e ∷ P) h = ap (λ o. if is_some o then told_cycles P else e ∷ P) h
 
 told_stopped : (P : Past) (e : Cycle) (stop : StopValue) → stop_of (e ∷ P) ≡ Some stop → told_cycles (e ∷ P) ≡ told_cycles P
 told_stopped P e stop h = ap (λ o. if is_some o then told_cycles P else e ∷ P) h
@@ -46,11 +43,11 @@ parts_bare M (e ∷ P) =
     ∙ ap (λ k. cycle_parts false M [] P ++ cycle_part false (cycle_record M [] k e) ∷ []) (size_bare P)
 
 -- what two runs have in common after some cycles: the stop, or that there was none, and the facts of the cycles before it
-record AreAlike (P R : Past) : Type 0 where
-  stops : stop_of P ≡ stop_of R
-  facts : HaveSameFacts (told_cycles P) (told_cycles R)
+pub record AreAlike (P R : Past) : Type 0 where
+  pub stops : stop_of P ≡ stop_of R
+  pub facts : HaveSameFacts (told_cycles P) (told_cycles R)
 
-same_parts : (M : MissionValue) (P R : Past) → AreAlike P R → run_parts false M [] P ≡ run_parts false M [] R
+pub same_parts : (M : MissionValue) (P R : Past) → AreAlike P R → run_parts false M [] P ≡ run_parts false M [] R
 same_parts M P R h =
     ap (λ hs. parts_of false M hs (told_cycles P) (stop_of P)) (no_histories P)
     ∙ ap (parts_of false M [] (told_cycles P)) h.stops
@@ -60,7 +57,7 @@ same_parts M P R h =
 
 -- ---- one more cycle
 
-script_now : (rules : List RuleValue) (M : MissionValue) (L : Log) (past : Past) → AllByRecursion (IsScripted rules) L → AllByRecursion (IsScripted rules) (next_cycle M L past).entries
+pub script_now : (rules : List RuleValue) (M : MissionValue) (L : Log) (past : Past) → AllByRecursion (IsScripted rules) L → AllByRecursion (IsScripted rules) (next_cycle M L past).entries
 script_now rules M L past h =
     subst (AllByRecursion (IsScripted rules)) (sym (entries_now M L past)) (All-filter (IsScripted rules) (λ (y : EntryValue). y.cycle == length past) L h)
 

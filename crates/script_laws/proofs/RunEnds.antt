@@ -11,7 +11,7 @@ use Rattle.guards_model.specs.Missions.{MissionValue}
 use Rattle.guards_model.specs.Network.{EntryValue, Log}
 use Rattle.guards_model.specs.Texts.{StopValue}
 use Rattle.guards_runs.specs.Cycles.{Cycle, Past, cycles_before, cycle_at, entries_of}
-use Rattle.guards_runs.specs.Disturbed.{disturbed_channels, halts, stop_in, stop_of, first_of_two}
+use Rattle.guards_runs.specs.Disturbed.{disturbed_channels, halts, stop_in, stop_of}
 use Rattle.guards_runs.specs.Due.{IsDue, AreDue, AreDueThrough, cycle_carries, carries_through}
 use Rattle.guards_runs.specs.Promises.{EachCycle, IsRun, HasRun}
 use Rattle.guards_model.proofs.BoolTests.{both}
@@ -19,6 +19,7 @@ use Rattle.guards_laws.proofs.LogGrows.{length-cycles_before}
 use Rattle.guards_laws.proofs.DueEntries.{IsDueNow, all_of_cycle, all_through, entries_cycle, entries_now, run_due}
 use Rattle.guards_laws.proofs.Deliveries.{neither}
 use Rattle.guards_laws.proofs.Agreement.{whole_run, stopped_run}
+use Rattle.guards_laws.proofs.FirstStop.{stop_stays}
 use Rattle.script_laws.specs.Scripts.{StopsAt}
 use Rattle.script_laws.proofs.Sent.{IsDueThrough}
 use Rattle.script_laws.proofs.FirstStops.{ComesTo}
@@ -112,19 +113,6 @@ stop_slot n e stop h = by (find (halts n e) every_slot) h
     by (Some slot) h =
         let same : told slot ≡ stop = cc in
         ap (λ (s : StopValue). Some s.slot) same
-
--- the first stop stays the first
-pub stop_stays : (M : MissionValue) (L : Log) (n : ℕ) (stop : StopValue) → stop_of (cycles_before M L n) ≡ None → stop_in n (cycle_at M L n) ≡ Some stop → (k m : ℕ) → m ≡ n + suc k →
-    stop_of (cycles_before M L m) ≡ Some stop
-stop_stays M L n stop unstopped stops zero m h =
-    let e : m ≡ suc n = omega (arith, h) in
-    rw e
-    (ap (λ o. first_of_two o (stop_in (length (cycles_before M L n)) (cycle_at M L n))) unstopped
-    ∙ ap (λ c. stop_in c (cycle_at M L n)) (length-cycles_before M L n) ∙ stops)
-stop_stays M L n stop unstopped stops (suc k) m h =
-    let e : m ≡ suc (n + suc k) = omega (arith, h) in
-    rw e
-    (ap (λ o. first_of_two o (stop_in (length (cycles_before M L (n + suc k))) (cycle_at M L (n + suc k)))) (stop_stays M L n stop unstopped stops k (n + suc k) refl))
 
 reaches_stop : (M : MissionValue) (L : Log) (stop : StopValue) → StopsAt M L stop → Reaches M L stop.cycle
 reaches_stop M L stop s =

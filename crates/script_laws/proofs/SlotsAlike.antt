@@ -28,7 +28,7 @@ use Rattle.guards_runs.specs.SameFacts.{without_entries, HaveSameFacts}
 use Rattle.guards_model.proofs.SlotTests.{up_to-trans}
 use Rattle.guards_laws.proofs.CycleParts.{by_channel-same}
 use Rattle.guards_laws.proofs.SlotsStand.{owed_alike}
-use Rattle.guards_laws.proofs.SamePast.{same_size, same_opening, same_held, same_source, same_plan, same_ideal, same_remaining}
+use Rattle.script_laws.proofs.SamePast.{same_size, same_opening, same_held, same_source, same_plan, same_ideal, same_remaining}
 use Rattle.script_laws.proofs.Sent.{is_sent, IsDueThrough, carry, nothing_if, found_if}
 
 -- ---- entries that the script makes
