@@ -1,7 +1,7 @@
 -- Each demo mission is a mission.
 use Rattle.std.proofs.Common.{◌≡◌, ℕ, zero, suc, ◌+◌, ◌*◌, ◌%◌, ◌<◌, ◌≤◌, Bool, true, List, [], ◌∷◌, ◌&&◌, ◌^◌, refl, arith}
-use Rattle.std.specs.Prelude.{pos, nat_lt, nat_le, map, length, Some, ◌==◌, slice_get, unwrap_or}
-use Rattle.std.specs.List.{list_all}
+use Rattle.std.specs.Prelude.{pos, nat_lt, nat_le, map, filter_map, length, Some, ◌==◌, slice_get, unwrap_or}
+use Rattle.std.specs.List.{AllByRecursion, list_all}
 use Rattle.std.proofs.lemmas.Bool.{lt-ltb, ltb-true}
 use Rattle.std.proofs.Math.Nat.{mod-lt}
 use Rattle.guards_model.specs.Words.{is_word}
@@ -9,9 +9,9 @@ use Rattle.guards_model.specs.Slots.{every_slot, on_bus}
 use Rattle.guards_model.specs.Contexts.{zeroed}
 use Rattle.guards_model.specs.declared.Slot.{Slot}
 use Rattle.guards_model.specs.declared.Slot.TheVariants.{Request, Vote}
-use Rattle.guards_model.specs.BusRules.{lose}
+use Rattle.guards_model.specs.BusRules.{RuleValue, lose}
 use Rattle.guards_model.specs.Faults.{crash, restart, bus}
-use Rattle.guards_model.specs.Missions.{IsMission, is_write, is_task, is_receiver, is_fault, is_context, within}
+use Rattle.guards_model.specs.Missions.{IsMission, bus_rule, bus_rules, is_write, is_task, is_receiver, is_fault, is_context, within}
 use Rattle.guards_model.proofs.BoolTests.{both, and_true}
 use Rattle.guards_model.proofs.ListTests.{place_passes}
 use Rattle.demo_mission.specs.Demo.{next_number, drawn, draws, number_after, sensor_words, in_pairs, sensor_rows, demo_write, demo_task, demo_tasks, demo_script, first_block, demo_mission}
@@ -173,3 +173,14 @@ demo_is_mission n =
       sensors = and_true _ _ (eight n) (sensors_are 8 n);
       script = and_true _ _ (thirty (number_after 144 n)) (faults_are n 10 0 (number_after 144 n) (omega arith));
     }
+
+-- ---- the rules for the bus
+
+rules_lose : (count k x : ℕ) → AllByRecursion (λ (rule : RuleValue). rule.act ≡ lose) (filter_map bus_rule (demo_script count k x))
+unfolding demo_script
+rules_lose zero k x = tt
+rules_lose (suc count) k x = (refl, rules_lose count (k + 1) (number_after 3 x))
+
+pub demo_rules_lose : (n : ℕ) → AllByRecursion (λ (rule : RuleValue). rule.act ≡ lose) (bus_rules (demo_mission n))
+unfolding demo_mission
+demo_rules_lose n = rules_lose 10 0 (number_after 144 n)

@@ -73,7 +73,7 @@ before_end Final = refl
 before_end Switch = refl
 before_end Output = refl
 
-same_slot_first : (slot : Slot) → up_to slot slot ≡ true
+pub same_slot_first : (slot : Slot) → up_to slot slot ≡ true
 same_slot_first slot = le-leb (slot_index slot) (slot_index slot) (omega arith)
 
 module _ (M : MissionValue) (L K : Log) (P R : Past) (last other : Slot) (two : AreBesides M L K P R last other) (none : ForgesNoSweep (bus_rules M)) where

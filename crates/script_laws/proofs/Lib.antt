@@ -5,4 +5,5 @@ pub mod Charges
 pub mod FirstStops
 pub mod RunEnds
 pub mod Reports
+pub mod FrameCounts
 pub mod WholeRuns

@@ -47,6 +47,10 @@ pub record AreAlike (P R : Past) : Type 0 where
   pub stops : stop_of P ≡ stop_of R
   pub facts : HaveSameFacts (told_cycles P) (told_cycles R)
 
+facts_unstopped : (P R : Past) → AreAlike P R → stop_of P ≡ None → HaveSameFacts P R
+facts_unstopped P R h no_stop =
+    ap (map without_entries) (sym (told_whole P no_stop)) ∙ h.facts ∙ ap (map without_entries) (told_whole R (sym h.stops ∙ no_stop))
+
 pub same_parts : (M : MissionValue) (P R : Past) → AreAlike P R → run_parts false M [] P ≡ run_parts false M [] R
 same_parts M P R h =
     ap (λ hs. parts_of false M hs (told_cycles P) (stop_of P)) (no_histories P)
@@ -93,7 +97,7 @@ module _ (M : MissionValue) (L K : Log) (forges_none : ForgesNoSweep (bus_rules 
       no_stop_too = sym before.stops ∙ no_stop
 
       same_past : HaveSameFacts P R
-      same_past = ap (map without_entries) (sym (told_whole P no_stop)) ∙ before.facts ∙ ap (map without_entries) (told_whole R no_stop_too)
+      same_past = facts_unstopped P R before no_stop
 
       reach_l : Reaches M L n
       reach_l = reaches M L n run_l.1 low no_stop
@@ -147,8 +151,15 @@ module _ (M : MissionValue) (L K : Log) (forges_none : ForgesNoSweep (bus_rules 
   alike zero low = record { stops = refl; facts = refl }
   alike (suc n) low = one_more n low (alike n (omega (arith, low))) (stop_of (cycles_before M L n)) refl
 
+  -- the facts of cycles that did not stop
+  pub same_before : (n : ℕ) → n ≤ M.cycles → stop_of (cycles_before M L n) ≡ None → HaveSameFacts (cycles_before M L n) (cycles_before M K n)
+  same_before n low no_stop = facts_unstopped (cycles_before M L n) (cycles_before M K n) (alike n low) no_stop
+
   pub stops_alike : stop_of (cycles_before M L M.cycles) ≡ stop_of (cycles_before M K M.cycles)
   stops_alike = (alike M.cycles (omega arith)).stops
+
+  pub facts_alike : HaveSameFacts (told_cycles (cycles_before M L M.cycles)) (told_cycles (cycles_before M K M.cycles))
+  facts_alike = (alike M.cycles (omega arith)).facts
 
   pub reports_alike : report M L ≡ report M K
   unfolding report report_parts

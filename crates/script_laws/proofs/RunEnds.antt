@@ -1,5 +1,5 @@
 -- How far a run that came to its end came in each of its cycles.
-use Rattle.std.proofs.Common.{◌≡◌, ℕ, zero, suc, ◌+◌, ◌-◌, ◌<◌, ◌≤◌, ◌==◌, ◌⊎◌, inl, inr, Bool, true, false, cond, [], ◌∷◌, ◌++◌, length, Option, None, Some, refl, sym, ap, subst, ◌∙◌, arith}
+use Rattle.std.proofs.Common.{◌≡◌, ℕ, zero, suc, ◌-◌, ◌<◌, ◌≤◌, ◌==◌, ◌⊎◌, inl, inr, Bool, true, false, cond, [], ◌∷◌, ◌++◌, length, Option, None, Some, refl, sym, ap, subst, ◌∙◌, arith}
 use Rattle.std.specs.Prelude.{find, option_map}
 use Rattle.std.specs.List.{list_all, AllZip}
 use Rattle.std.proofs.lemmas.Bool.{eqb-true, cases_lt, cases_eq}
@@ -73,7 +73,7 @@ none_earlier M (e ∷ past) entries k low due =
     ∙ ap (λ ys. ys ++ entries_of k due.1) (none_earlier M past due.0 k (omega (arith, low)) due.3)
     ∙ none_of_other (length past) k due.1 (omega (arith, low)) (entries_cycle M past e (length past) (cycle_carries (length past) e) due.1 due.4 (all_of_cycle (length past) e))
 
-entries_through : (M : MissionValue) (L : Log) (n : ℕ) (slot : Slot) → AreDueThrough M (cycles_before M L n) (cycle_at M L n) slot L →
+pub entries_through : (M : MissionValue) (L : Log) (n : ℕ) (slot : Slot) → AreDueThrough M (cycles_before M L n) (cycle_at M L n) slot L →
     IsDueThrough M (cycles_before M L n) (cycle_at M L n) slot
 entries_through M L n slot due =
     let past = cycles_before M L n in
@@ -124,7 +124,7 @@ reaches_stop M L stop s =
       comes = inl (subst (λ c. find (halts c e) every_slot ≡ Some stop.slot) (sym (length-cycles_before M L stop.cycle)) (stop_slot stop.cycle e stop s.stopped));
     }
 
-stop_clash : (stop : StopValue) (o : Option StopValue) → o ≡ None → o ≡ Some stop → ⊥
+pub stop_clash : (stop : StopValue) (o : Option StopValue) → o ≡ None → o ≡ Some stop → ⊥
 stop_clash stop o h k = cc (sym h ∙ k)
 
 pub reaches : (M : MissionValue) (L : Log) (n : ℕ) → IsRun M L M.cycles ⊎ ((stop : StopValue) × StopsAt M L stop) → n < M.cycles → stop_of (cycles_before M L n) ≡ None → Reaches M L n

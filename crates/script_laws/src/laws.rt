@@ -1,6 +1,6 @@
 //! The report of a run over a scripted bus is a function of its mission. The definitions stand in `specs/`.
 
-ghost use Rattle.std.specs.Prelude.{◌≡◌, ℕ};
+ghost use Rattle.std.specs.Prelude.{◌≡◌, ℕ, length};
 ghost use Rattle.std.specs.List.{AllByRecursion};
 ghost use Rattle.guards_model.specs.Missions.{MissionValue, bus_rules};
 ghost use Rattle.guards_model.specs.Network.{Log};
@@ -8,7 +8,7 @@ ghost use Rattle.guards_model.specs.ScriptedBus.{IsScripted};
 ghost use Rattle.guards_runs.specs.Cycles.{cycles_before};
 ghost use Rattle.guards_runs.specs.Disturbed.{stop_of};
 ghost use Rattle.guards_runs.specs.Promises.{IsRun, HasRun};
-ghost use Rattle.guards_runs.specs.Report.{report};
+ghost use Rattle.guards_runs.specs.Report.{told_cycles, report};
 ghost use Rattle.guards_runs.specs.SameFacts.{HaveSameFacts};
 ghost use Rattle.script_laws.specs.Scripts.{ForgesNoSweep, IsScriptedRun};
 
@@ -25,10 +25,15 @@ pub fn scripted_runs_are_alike()
 
 /// Two runs of one mission over a bus that does what the script says, each of which came to its last cycle or to its stop,
 /// and wherever copies fell in them: where the script forges no sweep frame they stop in the same slot with the same sets,
-/// or neither stops, and their reports are the same text.
+/// or neither stops; the cycles before the stop have the same facts but for the entries; equally many frames were carried;
+/// and their reports are the same text.
 pub fn scripted_runs_end_alike()
     ensures stops { (M : MissionValue) (L K : Log) → ForgesNoSweep (bus_rules M) → IsScriptedRun M L → IsScriptedRun M K →
         stop_of (cycles_before M L M.cycles) ≡ stop_of (cycles_before M K M.cycles) }
+    ensures facts { (M : MissionValue) (L K : Log) → ForgesNoSweep (bus_rules M) → IsScriptedRun M L → IsScriptedRun M K →
+        HaveSameFacts (told_cycles (cycles_before M L M.cycles)) (told_cycles (cycles_before M K M.cycles)) }
+    ensures frames { (M : MissionValue) (L K : Log) → ForgesNoSweep (bus_rules M) → IsScriptedRun M L → IsScriptedRun M K →
+        length L ≡ length K }
     ensures reports { (M : MissionValue) (L K : Log) → ForgesNoSweep (bus_rules M) → IsScriptedRun M L → IsScriptedRun M K →
         report M L ≡ report M K }
 {}
