@@ -27,6 +27,7 @@ use Rattle.mission_run.specs.declared.status.Status.TheVariants.{Done, Usage, Ba
 use Rattle.mission_run.specs.Reading.{OfMission, Tells}
 use Rattle.mission_run.specs.TopCall.{Outside, RunsMission, RunsDemo, Serves, Outcome, CompletesCommand, Completes}
 use Rattle.mission_run.proofs.Complete.{refused_for_memory, same_mission, told_to_end}
+use Rattle.mission_run.proofs.ByCommand.{by_command}
 
 -- the entries of a run are those that the log grew by
 same_entries : (log K L : Log) → log ++ K ≡ log ++ L → K ≡ L
@@ -81,26 +82,11 @@ module _ (may : List RuleValue → EntryValue → Type 0) (old new : Outside) (s
       by (inr ran) bytes M told within is no_read no_write = told_to_end (check_of ran.1) old.sink new.sink status ran.4 no_write
   served (command.Demo number) (kept, ran) = λ L grew goes_on no_read no_write. demo_to_end may number old.bus new.bus old.sink new.sink status L ran grew goes_on no_write
 
-  by_words : (words : List (List ℕ)) (asked other : Command) → command_of words ≡ Some other → Serves may other old new status → command_of words ≡ Some asked → CompletesCommand asked old new status
-  by_words words asked other is ran is_too =
-      let both : Some other ≡ Some asked = sym is ∙ is_too in
-      let same : other ≡ asked = cc in
-      served asked (subst (λ k. Serves may k old new status) same ran)
-
 short_completes : (asked : Command) (old new : Outside) → CompletesCommand asked old new NoMemory
 short_completes (command.Run trace) old new = λ bytes M told within is L grew goes_on no_read no_write. inr refl
 short_completes command.Check old new = λ bytes M told within is no_read no_write. inr refl
 short_completes (command.Demo number) old new = λ L grew goes_on no_read no_write. inr refl
 
 pub outcome_completes : (may : List RuleValue → EntryValue → Type 0) (words : List (List ℕ)) (old new : Outside) (status : Status) → Outcome may words old new status → Completes words old new status
-outcome_completes may words old new NoMemory outcome = λ asked is. short_completes asked old new
-outcome_completes may words old new Usage outcome = λ asked is. absurd (none (sym is ∙ outcome.0))
-  where
-    none : {x : Command} → Some x ≡ None → ⊥
-    none h = cc
-outcome_completes may words old new Done outcome = λ asked is. by_words may old new Done words asked outcome.0 outcome.1 outcome.2 is
-outcome_completes may words old new (BadMission why) outcome = λ asked is. by_words may old new (BadMission why) words asked outcome.0 outcome.1 outcome.2 is
-outcome_completes may words old new TooLong outcome = λ asked is. by_words may old new TooLong words asked outcome.0 outcome.1 outcome.2 is
-outcome_completes may words old new ReadFault outcome = λ asked is. by_words may old new ReadFault words asked outcome.0 outcome.1 outcome.2 is
-outcome_completes may words old new WriteFault outcome = λ asked is. by_words may old new WriteFault words asked outcome.0 outcome.1 outcome.2 is
-outcome_completes may words old new (TooManyDisturbed cycle slot set active) outcome = λ asked is. by_words may old new (TooManyDisturbed cycle slot set active) words asked outcome.0 outcome.1 outcome.2 is
+outcome_completes may words old new status outcome =
+    by_command may words old new (λ asked status. CompletesCommand asked old new status) (λ asked status. served may old new status asked) (λ asked. short_completes asked old new) status outcome

@@ -1,14 +1,15 @@
--- What `run` answers and writes is what any run of the mission over the scripted bus tells that came to its end.
-use Rattle.std.proofs.Common.{◌≡◌, ◌⊎◌, ◌-◌, inl, inr, ℕ, false, List, ◌++◌, Some, None, refl, sym, ap, subst, ◌∙◌, arith}
+-- What `run` and `demo` answer and write is what any run of the mission over the scripted bus tells that came to its end.
+use Rattle.std.proofs.Common.{◌≡◌, ◌⊎◌, ◌-◌, inl, inr, ℕ, true, false, List, ◌++◌, Some, None, refl, sym, ap, subst, ◌∙◌, arith}
 use Rattle.std.specs.List.{AllByRecursion, AllZip}
 use Rattle.std.specs.Io.KnownBytes.{Appends}
 use Rattle.guards_io.specs.Causes.{Rose}
-use Rattle.guards_model.specs.BusRules.{RuleValue}
+use Rattle.guards_model.specs.declared.Slot.TheVariants.{Sweep}
+use Rattle.guards_model.specs.BusRules.{RuleValue, lose}
 use Rattle.guards_model.specs.Missions.{MissionValue, bus_rules}
 use Rattle.guards_model.specs.Network.{EntryValue, Log}
 use Rattle.guards_model.specs.Rounds.{Histories}
 use Rattle.guards_model.specs.ScriptedBus.{IsScripted}
-use Rattle.guards_model.specs.Texts.{StopValue, stop_line}
+use Rattle.guards_model.specs.Texts.{TextValue, StopValue, stop_line}
 use Rattle.guards_model.proofs.Membership.{All-weaker}
 use Rattle.guards_runs.specs.Cycles.{cycles_before, cycle_at}
 use Rattle.guards_runs.specs.Disturbed.{stop_of}
@@ -21,18 +22,22 @@ use Rattle.guards_laws.proofs.FirstStop.{stop_stays}
 use Rattle.script_laws.proofs.Reports.{stops_alike, reports_alike}
 use Rattle.guards_world.specs.WorldCycle.{BusValue}
 use Rattle.run_laws.specs.Runs.{Ran, RanCycles, RanToStop}
+use Rattle.run_laws.specs.Summaries.{summary}
 use Rattle.run_laws.proofs.Standing.{due_by, each_due}
-use Rattle.world_run.specs.Running.{stop_value, RunsWhole, RunsToStop, EndsWith}
+use Rattle.world_run.specs.Running.{stop_value, Refuses, EndsWith}
 use Rattle.ideal_run.specs.Writes.{SinkView}
-use Rattle.command_words.specs.Commands.{command_of}
+use Rattle.demo_mission.specs.Demo.{demo_mission}
+use Rattle.demo_mission.proofs.IsDemo.{demo_rules_lose}
 use Rattle.command_words.specs.declared.command.Command.{Command}
 use Rattle.command_words.specs.declared.command.Command.TheVariants as command
 use Rattle.mission_run.specs.declared.status.Status.{Status}
 use Rattle.mission_run.specs.declared.status.Status.TheVariants.{Done, Usage, BadMission, TooLong, ReadFault, WriteFault, TooManyDisturbed, NoMemory}
 use Rattle.mission_run.specs.Reading.{RefusesBytes}
 use Rattle.mission_run.specs.Stream.{SourceView}
-use Rattle.mission_run.specs.TopCall.{Outside, RunsMission, Serves, Outcome, DoesScript, status_of_end, TellsAsAny, Repeats}
+use Rattle.mission_run.specs.TopCall.{Outside, RunsMission, RunsDemo, Serves, Outcome, DoesScript, status_of_end, text_or_stop, demo_text, TellsAsAny, RepeatsCommand, Repeats}
 use Rattle.mission_run.proofs.Complete.{refused_for_memory, same_mission}
+use Rattle.mission_run.proofs.ByCommand.{by_command}
+use Rattle.mission_run.proofs.DemoTexts.{demo_texts_alike}
 
 -- ---- a run that came to its end
 
@@ -67,46 +72,88 @@ module _ (may : List RuleValue → EntryValue → Type 0) (does : DoesScript may
 
 -- ---- what is answered and written
 
-module _ (may : List RuleValue → EntryValue → Type 0) (does : DoesScript may) (M : MissionValue) (none : ForgesNoSweep (bus_rules M))
-    (bus bus' : BusValue) (out out' : SinkView) where
-  -- what a run that came to its end told, each other tells
+stop_told : (M : MissionValue) (L : Log) (stop : StopValue) (histories : Histories) → RanToStop M stop.cycle stop L histories → stop_of (cycles_before M L M.cycles) ≡ Some stop
+stop_told M L stop histories to =
+    stop_stays M L stop.cycle stop to.unstopped to.stopped (M.cycles - stop.cycle - 1) M.cycles (omega (arith, to.within))
+
+-- what a run that came to its end told, each other tells, where two such runs have the same text
+module _ (may : List RuleValue → EntryValue → Type 0) (does : DoesScript may) (M : MissionValue) (none : ForgesNoSweep (bus_rules M)) (text : MissionValue → Log → TextValue)
+    (same_text : (L K : Log) → IsScriptedRun M L → IsScriptedRun M K → text M L ≡ text M K) (bus bus' : BusValue) (out out' : SinkView) where
   tells : (L : Log) (status : Status) → bus'.log ≡ bus.log ++ L → IsScriptedRun M L → status ≡ status_of_end (stop_of (cycles_before M L M.cycles)) →
-      Appends out.written out'.written (report M L) → TellsAsAny M bus bus' out out' status
+      Appends out.written out'.written (text M L) → TellsAsAny text M bus bus' out out' status
   tells L status grew run is wrote = (
     (L, grew, run),
     λ K run_k. (
       is ∙ ap status_of_end (stops_alike M L K none run run_k),
-      subst (Appends out.written out'.written) (reports_alike M L K none run run_k) wrote,
+      subst (Appends out.written out'.written) (same_text L K run run_k) wrote,
     ),
   )
 
-  told_whole : RunsWhole may false M bus bus' out out' → TellsAsAny M bus bus' out out' Done
-  told_whole (L, histories, ran, cycles, wrote, quiet) =
+  told_whole : (L : Log) (histories : Histories) → Ran may M bus bus' L → RanCycles M M.cycles L histories → Appends out.written out'.written (text M L) → TellsAsAny text M bus bus' out out' Done
+  told_whole L histories ran cycles wrote =
       tells L Done ran.log (whole_ends may does M bus bus' L histories ran cycles) (sym (ap status_of_end cycles.unstopped)) wrote
 
-  stop_told : (L : Log) (stop : StopValue) (histories : Histories) → RanToStop M stop.cycle stop L histories → stop_of (cycles_before M L M.cycles) ≡ Some stop
-  stop_told L stop histories to =
-      stop_stays M L stop.cycle stop to.unstopped to.stopped (M.cycles - stop.cycle - 1) M.cycles (omega (arith, to.within))
-
-  told_stop : (stop : StopValue) → RunsToStop may false M stop bus bus' out out' → (Rose out.faults out'.faults → ⊥) →
-      TellsAsAny M bus bus' out out' (TooManyDisturbed stop.cycle stop.slot stop.set stop.active)
-  told_stop stop (L, histories, before, ran, to, text, ends) no_write =
+  told_stop : (L : Log) (stop : StopValue) (histories : Histories) → Ran may M bus bus' L → RanToStop M stop.cycle stop L histories → Appends out.written out'.written (text M L) →
+      TellsAsAny text M bus bus' out out' (TooManyDisturbed stop.cycle stop.slot stop.set stop.active)
+  told_stop L stop histories ran to wrote =
       tells L (TooManyDisturbed stop.cycle stop.slot stop.set stop.active) ran.log (stop_ends may does M bus bus' L histories ran stop to)
-      (sym (ap status_of_end (stop_told L stop histories to))) (subst (Appends out.written out'.written) (sym text) (written ends))
-    where
-      written : EndsWith out out' before (stop_line stop) → Appends out.written out'.written (before ++ stop_line stop)
-      written (inl all) = all.0
-      written (inr front) = absurd (no_write front.5)
+      (sym (ap status_of_end (stop_told M L stop histories to))) wrote
 
-  run_repeats : (status : Status) → RunsMission may false M bus bus' out out' status → (Rose out.faults out'.faults → ⊥) → (status ≡ NoMemory) ⊎ TellsAsAny M bus bus' out out' status
-  run_repeats Done ran no_write = inr (told_whole ran)
-  run_repeats (TooManyDisturbed cycle slot set active) ran no_write = inr (told_stop (stop_value cycle slot set active) ran no_write)
-  run_repeats NoMemory ran no_write = inl refl
-  run_repeats WriteFault ran no_write = absurd (no_write ran.6)
-  run_repeats Usage ran no_write = absurd ran
-  run_repeats (BadMission why) ran no_write = absurd ran
-  run_repeats TooLong ran no_write = absurd ran
-  run_repeats ReadFault ran no_write = absurd ran
+module _ (may : List RuleValue → EntryValue → Type 0) (does : DoesScript may) (bus bus' : BusValue) (out out' : SinkView) (no_write : Rose out.faults out'.faults → ⊥) where
+  -- ---- `run`
+
+  module _ (M : MissionValue) (none : ForgesNoSweep (bus_rules M)) where
+    run_text_alike : (L K : Log) → IsScriptedRun M L → IsScriptedRun M K → report M L ≡ report M K
+    run_text_alike L K run_l run_k = reports_alike M L K none run_l run_k
+
+    report_ended : (before : TextValue) (stop : StopValue) → EndsWith out out' before (stop_line stop) → Appends out.written out'.written (before ++ stop_line stop)
+    report_ended before stop (inl all) = all.0
+    report_ended before stop (inr front) = absurd (no_write front.5)
+
+    run_repeats : (status : Status) → RunsMission may false M bus bus' out out' status → (status ≡ NoMemory) ⊎ TellsAsAny report M bus bus' out out' status
+    run_repeats Done (L, histories, ran, cycles, wrote, quiet) =
+        inr (told_whole may does M none report run_text_alike bus bus' out out' L histories ran cycles wrote)
+    run_repeats (TooManyDisturbed cycle slot set active) (L, histories, before, ran, to, text, ends) =
+        let stop = stop_value cycle slot set active in
+        inr (told_stop may does M none report run_text_alike bus bus' out out' L stop histories ran to
+        (subst (Appends out.written out'.written) (sym text) (report_ended before stop ends)))
+    run_repeats NoMemory ran = inl refl
+    run_repeats WriteFault ran = absurd (no_write ran.6)
+    run_repeats Usage ran = absurd ran
+    run_repeats (BadMission why) ran = absurd ran
+    run_repeats TooLong ran = absurd ran
+    run_repeats ReadFault ran = absurd ran
+
+  -- ---- `demo`
+
+  module _ (number : ℕ) where
+    abbrev D : MissionValue
+    D = demo_mission number
+
+    forges_none : ForgesNoSweep (bus_rules D)
+    forges_none = All-weaker (λ (rule : RuleValue). rule.act ≡ lose) (λ (rule : RuleValue). rule.slot ≡ Sweep → rule.act ≡ lose) (bus_rules D) (λ rule loses slot. loses) (demo_rules_lose number)
+
+    demo_text_alike : (L K : Log) → IsScriptedRun D L → IsScriptedRun D K → demo_text number D L ≡ demo_text number D K
+    demo_text_alike L K run_l run_k = demo_texts_alike number D forges_none L K run_l run_k
+
+    line_written : (stop : StopValue) → Refuses out out' (stop_line stop) → Appends out.written out'.written (stop_line stop)
+    line_written stop (inl all) = all.0
+    line_written stop (inr front) = absurd (no_write front.1)
+
+    demo_repeats : (status : Status) → RunsDemo may number bus bus' out out' status → (status ≡ NoMemory) ⊎ TellsAsAny (demo_text number) D bus bus' out out' status
+    demo_repeats Done (L, histories, ran, cycles, wrote, quiet) =
+        inr (told_whole may does D forges_none (demo_text number) demo_text_alike bus bus' out out' L histories ran cycles
+        (subst (Appends out.written out'.written) (sym (ap (text_or_stop (summary number D L)) cycles.unstopped)) wrote))
+    demo_repeats (TooManyDisturbed cycle slot set active) (L, histories, ran, to, line) =
+        let stop = stop_value cycle slot set active in
+        inr (told_stop may does D forges_none (demo_text number) demo_text_alike bus bus' out out' L stop histories ran to
+        (subst (Appends out.written out'.written) (sym (ap (text_or_stop (summary number D L)) (stop_told D L stop histories to))) (line_written stop line)))
+    demo_repeats NoMemory ran = inl refl
+    demo_repeats WriteFault ran = absurd (no_write ran.5)
+    demo_repeats Usage ran = absurd ran
+    demo_repeats (BadMission why) ran = absurd ran
+    demo_repeats TooLong ran = absurd ran
+    demo_repeats ReadFault ran = absurd ran
 
 -- ---- the call
 
@@ -115,29 +162,23 @@ refused_repeats : (src src' : SourceView) (out out' : SinkView) (status : Status
 refused_repeats src src' out out' status refused (inl done) = absurd (subst (RefusesBytes src src' out out') done refused)
 refused_repeats src src' out out' status refused (inr short) = short
 
-module _ (may : List RuleValue → EntryValue → Type 0) (words : List (List ℕ)) (old new : Outside) (status : Status) where
-  served : Serves may (command.Run false) old new status → Repeats may words old new status
-  served (inl refused) = λ bytes M asked told within is does none no_read no_write.
+module _ (may : List RuleValue → EntryValue → Type 0) (does : DoesScript may) (old new : Outside) where
+  served : (asked : Command) (status : Status) → Serves may asked old new status → RepeatsCommand asked old new status
+  served (command.Run false) status (inl refused) = λ bytes M told within is none no_read no_write.
       inl (refused_repeats old.source new.source old.sink new.sink status refused.0 (refused_for_memory old.source new.source old.sink new.sink status bytes M refused.0 told within is no_read))
-  served (inr ran) = λ bytes M asked told within is does none no_read no_write.
+  served (command.Run false) status (inr ran) = λ bytes M told within is none no_read no_write.
       let same = same_mission old.source new.source ran.0 bytes ran.1 M ran.2 ran.3 told is in
-      run_repeats may does M none old.bus new.bus old.sink new.sink status (subst (λ J. RunsMission may false J old.bus new.bus old.sink new.sink status) same ran.4) no_write
+      run_repeats may does old.bus new.bus old.sink new.sink no_write M none status (subst (λ J. RunsMission may false J old.bus new.bus old.sink new.sink status) same ran.4)
+  served (command.Run true) status ran = tt
+  served command.Check status ran = tt
+  served (command.Demo number) status (kept, ran) = λ no_write. demo_repeats may does old.bus new.bus old.sink new.sink no_write number status ran
 
-  by_words : (other : Command) → command_of words ≡ Some other → Serves may other old new status → Repeats may words old new status
-  by_words other is ran = λ bytes M asked.
-      let both : Some other ≡ Some (command.Run false) = sym is ∙ asked in
-      let same : other ≡ command.Run false = cc in
-      served (subst (λ k. Serves may k old new status) same ran) bytes M asked
+short_repeats : (asked : Command) (old new : Outside) → RepeatsCommand asked old new NoMemory
+short_repeats (command.Run false) old new = λ bytes M told within is none no_read no_write. inl refl
+short_repeats (command.Run true) old new = tt
+short_repeats command.Check old new = tt
+short_repeats (command.Demo number) old new = λ no_write. inl refl
 
 pub outcome_repeats : (may : List RuleValue → EntryValue → Type 0) (words : List (List ℕ)) (old new : Outside) (status : Status) → Outcome may words old new status → Repeats may words old new status
-outcome_repeats may words old new NoMemory outcome = λ bytes M asked told within is does none no_read no_write. inl refl
-outcome_repeats may words old new Usage outcome = λ bytes M asked. absurd (clash (sym asked ∙ outcome.0))
-  where
-    clash : {x : Command} → Some x ≡ None → ⊥
-    clash h = cc
-outcome_repeats may words old new Done outcome = by_words may words old new Done outcome.0 outcome.1 outcome.2
-outcome_repeats may words old new (BadMission why) outcome = by_words may words old new (BadMission why) outcome.0 outcome.1 outcome.2
-outcome_repeats may words old new TooLong outcome = by_words may words old new TooLong outcome.0 outcome.1 outcome.2
-outcome_repeats may words old new ReadFault outcome = by_words may words old new ReadFault outcome.0 outcome.1 outcome.2
-outcome_repeats may words old new WriteFault outcome = by_words may words old new WriteFault outcome.0 outcome.1 outcome.2
-outcome_repeats may words old new (TooManyDisturbed cycle slot set active) outcome = by_words may words old new (TooManyDisturbed cycle slot set active) outcome.0 outcome.1 outcome.2
+outcome_repeats may words old new status outcome = λ does.
+    by_command may words old new (λ asked status. RepeatsCommand asked old new status) (served may does old new) (λ asked. short_repeats asked old new) status outcome
