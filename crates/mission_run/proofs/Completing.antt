@@ -16,7 +16,6 @@ use Rattle.demo_mission.specs.Demo.{demo_mission}
 use Rattle.mission_text.specs.Mission.{mission_of}
 use Rattle.ideal_run.specs.Writes.{SinkView}
 use Rattle.check_text.specs.Check.{check_of}
-use Rattle.command_words.specs.Commands.{command_of}
 use Rattle.command_words.specs.declared.command.Command.{Command}
 use Rattle.command_words.specs.declared.command.Command.TheVariants as command
 use Rattle.run_laws.specs.Runs.{Ran, RanToStop}
