@@ -6,14 +6,6 @@ mod drive;
 #[cfg(test)]
 mod meeting;
 #[cfg(test)]
-mod missions;
-#[cfg(test)]
 mod replay;
 #[cfg(test)]
-mod restoring_rows;
-#[cfg(test)]
-mod rows;
-#[cfg(test)]
 mod tests;
-#[cfg(test)]
-mod voting_rows;

@@ -1,14 +1,14 @@
 use crate::drive::{Outcome, run_mission};
 use crate::meeting::WorkersMeet;
 use crate::replay::{acts_of, are_alike};
-use crate::rows::{Row, parted, unfolded};
-use crate::{restoring_rows, voting_rows};
 use ctx_lock::OpenGate;
 use icn_bus::{MemBus, ScriptBus};
 use std::alloc::{AllocError, Global};
 use std::sync::Wait;
 use std::test::Fail;
 use std::thread::Threads;
+use worked_missions::restoring_rows::{self, ROUNDS, crash_and_return};
+use worked_missions::{Row, parted, unfolded, voting_rows};
 
 // What came of a row over the scripted bus that is not as the row says.
 fn mistake(
@@ -94,27 +94,12 @@ fn channels_are_restored(rt: HostRuntime) -> Result<(), Fail> {
     Ok(())
 }
 
-// Four channels work in the first cycles, and make copies in three of them.
-const ROUNDS: &str = "trace 0,1,2,3 T
-trace 0,1,2,3 T
-trace 0,1,2,3 T
-trace 0,1,2,3 SSST
-trace 0,1,2,3 SSST
-trace 0,1,2,3 SSST
-trace 0,1,2,3,4 T
-trace 0,1,2,3,4 T
-trace 0,1,2,3,4 T
-trace 0,1,2,3,4 T
-trace 0,1,2,3,4 T
-trace 0,1,2,3,4 T
-";
-
 #[test]
 fn the_workers_of_a_channel_meet(rt: HostRuntime) -> Result<(), Fail> {
     let alloc = rt.alloc();
     let gate = WorkersMeet::new();
     let mut bus = ScriptBus::empty(alloc);
-    let row = restoring_rows::rows().first().ok_or("a row")?;
+    let row = crash_and_return();
     let mission = row.mission(alloc)?;
     let outcome = run_mission(&rt, alloc, &mission, &mut bus, &gate)?.ok_or("a mission")?;
     let (_, rounds) = parted(alloc, outcome.text.as_str())?;

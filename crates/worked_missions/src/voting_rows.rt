@@ -1,6 +1,7 @@
 //! Missions in which channels agree on words, vote, judge and are removed.
 use crate::missions::{COUNT, SUM};
-use crate::rows::{Row, Told, VoteFrame};
+use crate::rows::{Row, Told};
+use crate::votes::VoteFrame;
 
 // Four channels sum up fives.
 const SUMS: &str = "cycle 0 active 0,1,2,3 transfer -
@@ -115,7 +116,7 @@ const FIVE_CYCLES: (&str, &str) = ("cycles = 12", "cycles = 5");
 
 const LOW_THRESHOLD: (&str, &str) = ("threshold = 6553600", "threshold = 131072\nkeep = 32767");
 
-static ROWS: [Row; 12] = [
+static ROWS: [Row; 14] = [
     Row {
         name: "two cycles without faults",
         base: SUM,
@@ -159,6 +160,26 @@ static ROWS: [Row; 12] = [
         base: SUM,
         changes: &[],
         faults: &["{ kind = 'lose', cycle = 0, slot = 'round2', from = 1 },"],
+        done: 2,
+        carried: 80,
+        told: Told::Whole(&[SUMS]),
+        votes: &[],
+    },
+    Row {
+        name: "a lost vote frame of one of four changes nothing",
+        base: SUM,
+        changes: &[],
+        faults: &["{ kind = 'lose', cycle = 0, slot = 'vote', from = 2, to = 0 },"],
+        done: 2,
+        carried: 80,
+        told: Told::Whole(&[SUMS]),
+        votes: &[],
+    },
+    Row {
+        name: "a channel that is up is restarted in vain",
+        base: SUM,
+        changes: &[],
+        faults: &["{ kind = 'restart', cycle = 0, channel = 1 },"],
         done: 2,
         carried: 80,
         told: Told::Whole(&[SUMS]),

@@ -1,6 +1,7 @@
 //! Missions in which channels are removed, restored and joined.
 use crate::missions::{COUNT, CRASH_AND_RETURN};
-use crate::rows::{Row, Told, VoteFrame};
+use crate::rows::{Row, Told};
+use crate::votes::VoteFrame;
 
 // Channel 4 is down, asks, and is removed.
 const AWAY: &str = "cycle 0 active 0,1,2,3,4 transfer -
@@ -251,6 +252,21 @@ const FIRST_VOTE: VoteFrame = VoteFrame {
 // The text of a mission in which channel 4 crashes and returns.
 const CRASH_AND_RETURN_TEXT: [&str; 5] = [AWAY, FIRST_SWEEPS, JOINED, FIVE_FROM_6, FIVE_FROM_8];
 
+/// The rounds of that mission, cycle by cycle: the channels that work, and their copies and writes.
+pub const ROUNDS: &str = "trace 0,1,2,3 T
+trace 0,1,2,3 T
+trace 0,1,2,3 T
+trace 0,1,2,3 SSST
+trace 0,1,2,3 SSST
+trace 0,1,2,3 SSST
+trace 0,1,2,3,4 T
+trace 0,1,2,3,4 T
+trace 0,1,2,3,4 T
+trace 0,1,2,3,4 T
+trace 0,1,2,3,4 T
+trace 0,1,2,3,4 T
+";
+
 static ROWS: [Row; 11] = [
     Row {
         name: "a channel crashes and returns",
@@ -443,6 +459,11 @@ end removed - joined - remaining 4
         votes: &[],
     },
 ];
+
+/// The mission in which channel 4 crashes, is removed and joins again.
+pub fn crash_and_return() -> &'static Row {
+    &ROWS[0]
+}
 
 /// The missions in which channels are restored.
 pub fn rows() -> &'static [Row] {
