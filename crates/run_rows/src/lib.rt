@@ -1,4 +1,4 @@
-//! Worked missions over sources and sinks in memory, as tests on the call `guards`.
+//! Worked missions and small calls over sources, sinks and buses in memory, as tests on the call `guards`.
 #![tactic(auto)]
 
 ghost use Rattle.std.specs.Prelude.{◌≡◌};
@@ -71,5 +71,13 @@ fn answer_by<
     guards(rt, alloc, words, src, out, bus, &OpenGate, &natives)
 }
 
+#[cfg(test)]
+mod cases;
+#[cfg(test)]
+mod reports;
+#[cfg(test)]
+mod sizes;
+#[cfg(test)]
+mod stage;
 #[cfg(test)]
 mod tests;
