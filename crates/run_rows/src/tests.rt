@@ -11,16 +11,26 @@ use std::thread::Threads;
 use worked_missions::restoring_rows::{self, ROUNDS, crash_and_return};
 use worked_missions::{Row, SUM, computing_rows, parted, unfolded, voting_rows};
 
+// What is not as a row says, over a bus that has carried nothing.
+fn wrong_over<R: Threads + Wait + Sync>(
+    rt: &R,
+    alloc: Global,
+    row: &Row,
+    bus: &mut ScriptBus,
+) -> Result<Option<&'static str>, AllocError> {
+    let mission = row.mission(alloc)?;
+    let ended = call_over(rt, alloc, &smooth("run", &mission), bus)?;
+    mistake(alloc, row, &mission, &ended, bus.log())
+}
+
 // What is not as a row says.
 fn wrong<R: Threads + Wait + Sync>(
     rt: &R,
     alloc: Global,
     row: &Row,
 ) -> Result<Option<&'static str>, AllocError> {
-    let mission = row.mission(alloc)?;
     let mut bus = ScriptBus::empty(alloc);
-    let ran = call_over(rt, alloc, &smooth("run", &mission), &mut bus)?;
-    mistake(alloc, row, &mission, &ran, bus.log())
+    wrong_over(rt, alloc, row, &mut bus)
 }
 
 #[test]
