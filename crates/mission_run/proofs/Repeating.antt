@@ -42,7 +42,7 @@ use Rattle.mission_run.proofs.DemoTexts.{demo_texts_alike}
 -- ---- a run that came to its end
 
 module _ (may : List RuleValue → EntryValue → Type 0) (does : DoesScript may) (M : MissionValue) (bus bus' : BusValue) (L : Log) (histories : Histories) (ran : Ran may M bus bus' L) where
-  scripted : AllByRecursion (IsScripted (bus_rules M)) L
+  pub scripted : AllByRecursion (IsScripted (bus_rules M)) L
   scripted = All-weaker (may (bus_rules M)) (IsScripted (bus_rules M)) L (does (bus_rules M)) ran.each
 
   whole_ends : RanCycles M M.cycles L histories → IsScriptedRun M L
@@ -158,7 +158,7 @@ module _ (may : List RuleValue → EntryValue → Type 0) (does : DoesScript may
 -- ---- the call
 
 -- bytes that are a mission are refused for want of memory alone
-refused_repeats : (src src' : SourceView) (out out' : SinkView) (status : Status) → RefusesBytes src src' out out' status → (status ≡ Done) ⊎ (status ≡ NoMemory) → status ≡ NoMemory
+pub refused_repeats : (src src' : SourceView) (out out' : SinkView) (status : Status) → RefusesBytes src src' out out' status → (status ≡ Done) ⊎ (status ≡ NoMemory) → status ≡ NoMemory
 refused_repeats src src' out out' status refused (inl done) = absurd (subst (RefusesBytes src src' out out') done refused)
 refused_repeats src src' out out' status refused (inr short) = short
 

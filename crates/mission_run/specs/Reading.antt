@@ -33,7 +33,8 @@ RefusesBytes src src' out out' TooLong = (bytes : List ℕ) × (length bytes ≡
 -- only where the source's faults rose, and before the end of what is read
 RefusesBytes src src' out out' ReadFault =
     (bytes : List ℕ) × (length bytes ≤ LIMIT) × Consumes src.left src'.left bytes × Rose src.faults src'.faults × Refuses out out' read_line
-RefusesBytes src src' out out' NoMemory = out' ≡ out
+-- while the source is read, at the latest with the byte that is too many, or once it is read; no fault came
+RefusesBytes src src' out out' NoMemory = (bytes : List ℕ) × (length bytes ≤ LIMIT + 1) × Takes src src' bytes × (out' ≡ out)
 RefusesBytes src src' out out' Done = ⊥
 RefusesBytes src src' out out' Usage = ⊥
 RefusesBytes src src' out out' WriteFault = ⊥

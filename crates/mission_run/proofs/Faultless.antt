@@ -1,0 +1,130 @@
+-- A mission without faults is run to its end, and its report is the ideal machine's.
+use Rattle.std.proofs.Common.{◌≡◌, ◌⊎◌, inl, inr, ℕ, Bool, true, false, cond, List, [], ◌∷◌, None, Some, refl, sym, ap, subst, ◌∙◌, arith, append-nil}
+use Rattle.std.specs.Prelude.{find, option_map}
+use Rattle.std.specs.List.{list_all}
+use Rattle.std.specs.Io.KnownBytes.{Appends}
+use Rattle.guards_io.specs.Causes.{Rose}
+use Rattle.guards_model.specs.declared.Slot.{Slot}
+use Rattle.guards_model.specs.Slots.{every_slot, on_bus}
+use Rattle.guards_model.specs.BusRules.{RuleValue}
+use Rattle.guards_model.specs.Missions.{MissionValue, IsMission}
+use Rattle.guards_model.specs.Network.{EntryValue, Log}
+use Rattle.guards_model.specs.Rounds.{Histories}
+use Rattle.guards_model.specs.Texts.{StopValue}
+use Rattle.guards_model.proofs.BoolTests.{both}
+use Rattle.guards_runs.specs.Cycles.{Cycle, Past, cycles_before, cycle_at}
+use Rattle.guards_runs.specs.Disturbed.{disturbed_channels, halts, stop_in}
+use Rattle.guards_runs.specs.Faultless.{IsFaultless, HasDue}
+use Rattle.guards_laws.proofs.LogGrows.{length-cycles_before}
+use Rattle.guards_laws.proofs.NoFaults.{faultless_slots}
+use Rattle.guards_world.specs.WorldCycle.{BusValue}
+use Rattle.ideal_laws.proofs.IdealReports.{report_is}
+use Rattle.ideal_run.specs.Writes.{SinkView}
+use Rattle.mission_laws.proofs.WholeMission.{read_missions}
+use Rattle.run_laws.specs.Runs.{Ran, RanCycles, RanToStop, run_text}
+use Rattle.run_laws.proofs.Standing.{due_by, each_due, from_through}
+use Rattle.world_run.specs.Running.{stop_value}
+use Rattle.command_words.specs.declared.command.Command.{Command}
+use Rattle.command_words.specs.declared.command.Command.TheVariants as command
+use Rattle.mission_run.specs.declared.status.Status.{Status}
+use Rattle.mission_run.specs.declared.status.Status.TheVariants.{Done, Usage, BadMission, TooLong, ReadFault, WriteFault, TooManyDisturbed, NoMemory}
+use Rattle.mission_run.specs.TopCall.{Outside, RunsMission, Serves, Outcome, DoesScript, HasNoFaults, TellsIdeal, RunsIdeal, EndsWell}
+use Rattle.mission_run.proofs.Complete.{refused_for_memory, same_mission}
+use Rattle.mission_run.proofs.ByCommand.{by_command}
+use Rattle.mission_run.proofs.Repeating.{scripted, refused_repeats}
+
+-- ---- no slot stops the run
+
+none_found : (p : Slot → Bool) (slots : List Slot) → list_all on_bus slots ≡ true → ((slot : Slot) → on_bus slot ≡ true → p slot ≡ false) → find p slots ≡ None
+none_found p [] all h = refl
+none_found p (x ∷ slots) all h =
+    let parts = both (on_bus x) (list_all on_bus slots) all in
+    ap (λ b. cond b (Some x) (find p slots)) (h x parts.0) ∙ none_found p slots parts.1 h
+
+-- a cycle that no slot halts has no stop
+no_stop : (c : ℕ) (e : Cycle) → ((slot : Slot) → on_bus slot ≡ true → halts c e slot ≡ false) → stop_in c e ≡ None
+no_stop c e goes_on =
+    let stop_at : Slot → StopValue = λ slot. record { cycle = c; slot = slot; set = disturbed_channels c e slot; active = e.active } in
+    ap (option_map stop_at) (none_found (halts c e) every_slot refl goes_on)
+
+none_is_some : {x : StopValue} → None ≡ Some x → ⊥
+none_is_some h = cc
+
+module _ (may : List RuleValue → EntryValue → Type 0) (does : DoesScript may) (M : MissionValue) (mission : IsMission M) (none : HasNoFaults M) (bus bus' : BusValue) where
+  faultless : (L : Log) (histories : Histories) → Ran may M bus bus' L → IsFaultless M L
+  faultless L histories ran = record { harmless = none; scripted = scripted may does M bus bus' L histories ran }
+
+  has_due : (L : Log) (histories : Histories) → RanCycles M M.cycles L histories → HasDue M L M.cycles
+  has_due L histories cycles = record {
+    before = L;
+    later = [];
+    entries = sym (append-nil L);
+    after = tt;
+    due = due_by M histories (cycles_before M L M.cycles) L cycles.due;
+  }
+
+  not_stopped : (L : Log) (stop : StopValue) (histories : Histories) → Ran may M bus bus' L → RanToStop M stop.cycle stop L histories → ⊥
+  not_stopped L stop histories ran to =
+      let n = stop.cycle in
+      let past : Past = cycles_before M L n in
+      let e = cycle_at M L n in
+      let due : HasDue M L n =
+      record {
+        before = to.before;
+        later = to.now;
+        entries = to.entries;
+        after = from_through M past e n stop.slot to.now (each_due M past e to.steps _ to.now to.due_now);
+        due = due_by M histories past to.before to.due;
+      } in
+      none_is_some
+      (sym (no_stop n e (λ slot on.
+      subst (λ c. halts c e slot ≡ false) (length-cycles_before M L n)
+      (faultless_slots M L n slot mission (omega (arith, to.within)) (faultless L histories ran) due on)))
+      ∙ to.stopped)
+
+  -- ---- what is written
+
+  module _ (out out' : SinkView) where
+    tells_ideal : (trace : Bool) (L : Log) (histories : Histories) → Ran may M bus bus' L → RanCycles M M.cycles L histories → Appends out.written out'.written (run_text trace M L histories) →
+        TellsIdeal trace M out out'
+    tells_ideal true L histories ran cycles wrote = tt
+    tells_ideal false L histories ran cycles wrote =
+        subst (Appends out.written out'.written) (report_is M L mission (faultless L histories ran) (has_due L histories cycles)) wrote
+
+    run_is_ideal : (trace : Bool) (status : Status) → RunsMission may trace M bus bus' out out' status → (Rose out.faults out'.faults → ⊥) → (status ≡ NoMemory) ⊎ ((status ≡ Done) × TellsIdeal trace M out out')
+    run_is_ideal trace Done (L, histories, ran, cycles, wrote, quiet) no_write = inr (refl, tells_ideal trace L histories ran cycles wrote)
+    run_is_ideal trace NoMemory ran no_write = inl refl
+    run_is_ideal trace WriteFault ran no_write = absurd (no_write ran.6)
+    run_is_ideal trace (TooManyDisturbed cycle slot set active) ran no_write = absurd (not_stopped ran.0 (stop_value cycle slot set active) ran.1 ran.3 ran.4)
+    run_is_ideal trace Usage ran no_write = absurd ran
+    run_is_ideal trace (BadMission why) ran no_write = absurd ran
+    run_is_ideal trace TooLong ran no_write = absurd ran
+    run_is_ideal trace ReadFault ran no_write = absurd ran
+
+-- ---- the call
+
+-- what the call does where it is `run`
+abbrev Ideal : Outside → Outside → Command → Status → Type 0
+Ideal old new (command.Run trace) status = RunsIdeal trace old new status
+Ideal old new command.Check status = Unit {0}
+Ideal old new (command.Demo number) status = Unit {0}
+
+module _ (may : List RuleValue → EntryValue → Type 0) (does : DoesScript may) (old new : Outside) where
+  served : (asked : Command) (status : Status) → Serves may asked old new status → Ideal old new asked status
+  served (command.Run trace) status (inl refused) = λ bytes M told within is none no_read no_write.
+      inl (refused_repeats old.source new.source old.sink new.sink status refused.0 (refused_for_memory old.source new.source old.sink new.sink status bytes M refused.0 told within is no_read))
+  served (command.Run trace) status (inr ran) = λ bytes M told within is none no_read no_write.
+      let same = same_mission old.source new.source ran.0 bytes ran.1 M ran.2 ran.3 told is in
+      run_is_ideal may does M (read_missions bytes M is) none old.bus new.bus old.sink new.sink trace status
+      (subst (λ J. RunsMission may trace J old.bus new.bus old.sink new.sink status) same ran.4) no_write
+  served command.Check status ran = tt
+  served (command.Demo number) status ran = tt
+
+short_of_memory : (asked : Command) (old new : Outside) → Ideal old new asked NoMemory
+short_of_memory (command.Run trace) old new = λ bytes M told within is none no_read no_write. inl refl
+short_of_memory command.Check old new = tt
+short_of_memory (command.Demo number) old new = tt
+
+pub outcome_ends_well : (may : List RuleValue → EntryValue → Type 0) (words : List (List ℕ)) (old new : Outside) (status : Status) → Outcome may words old new status → EndsWell may words old new status
+outcome_ends_well may words old new status outcome = λ does trace is.
+    by_command may words old new (Ideal old new) (served may does old new) (λ asked. short_of_memory asked old new) status outcome (command.Run trace) is
