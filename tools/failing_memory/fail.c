@@ -5,50 +5,54 @@
 #include <stdatomic.h>
 #include <stdio.h>
 #include <stdlib.h>
+#include <sys/syscall.h>
+#include <unistd.h>
 
 static atomic_ulong asked;
 
 static int fails(void) {
-    static unsigned long at;
-    static atomic_int known;
-    if (!known) {
+    static atomic_ulong at;
+    static atomic_int is_known;
+    if (!is_known) {
         const char *said = getenv("FAIL_AT");
         at = said ? strtoul(said, NULL, 10) : 0;
-        known = 1;
+        is_known = 1;
     }
     return ++asked == at;
 }
 
-#define NEXT(name, type) \
-    static type next; \
-    if (!next) next = (type)dlsym(RTLD_NEXT, name);
+/* The C library's function of that name. */
+#define NEXT(name) \
+    static __typeof__(name) *next; \
+    if (!next) next = (__typeof__(name) *)dlsym(RTLD_NEXT, #name);
 
 void *malloc(size_t size) {
-    NEXT("malloc", void *(*)(size_t))
-    if (fails()) { errno = ENOMEM; return NULL; }
+    NEXT(malloc)
+    if (fails()) {
+        errno = ENOMEM;
+        return NULL;
+    }
     return next(size);
 }
 
 void *realloc(void *old, size_t size) {
-    NEXT("realloc", void *(*)(void *, size_t))
-    if (fails()) { errno = ENOMEM; return NULL; }
+    NEXT(realloc)
+    if (fails()) {
+        errno = ENOMEM;
+        return NULL;
+    }
     return next(old, size);
 }
 
-void *aligned_alloc(size_t align, size_t size) {
-    NEXT("aligned_alloc", void *(*)(size_t, size_t))
-    if (fails()) { errno = ENOMEM; return NULL; }
-    return next(align, size);
-}
-
-int posix_memalign(void **to, size_t align, size_t size) {
-    NEXT("posix_memalign", int (*)(void **, size_t, size_t))
-    if (fails()) return ENOMEM;
-    return next(to, align, size);
-}
-
-__attribute__((destructor)) static void tell(void) {
+/* By this call the program ends. */
+void _exit(int status) {
+    unsigned long count = asked;
     const char *path = getenv("COUNT_TO");
     FILE *file = path ? fopen(path, "w") : NULL;
-    if (file) { fprintf(file, "%lu\n", (unsigned long)asked); fclose(file); }
+    if (file) {
+        fprintf(file, "%lu\n", count);
+        fclose(file);
+    }
+    syscall(SYS_exit_group, status);
+    __builtin_unreachable();
 }

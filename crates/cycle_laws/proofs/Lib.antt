@@ -5,3 +5,4 @@ pub mod Running
 pub mod Finishing
 pub mod Sizes
 pub mod SlotEnding
+pub mod RunFronts

@@ -5,9 +5,11 @@
 mod carried;
 mod counts;
 mod ending;
+mod fronts;
 mod staying;
 
 pub use carried::slots_end;
 pub use counts::entries_fit;
 pub use ending::{cycles_finish, cycles_run_out, cycles_stop};
+pub use fronts::fronts_end_at_stops;
 pub use staying::{channels_run, decisions_stay, full_stays, later_slots_follow, steps_come_later};

@@ -17,9 +17,11 @@ use Rattle.guards_runs.specs.Due.{slot_carries}
 use Rattle.guards_laws.proofs.CycleParts.{active-is}
 use Rattle.guards_world.specs.Worlds.{WorldValue}
 use Rattle.guards_world.specs.WorldCycle.{AreFull}
-use Rattle.world_laws.specs.Passing.{AreCarried, IsFront, StopsIn, world_carried}
-use Rattle.world_laws.proofs.Passing.{take_all, carries_slot, stops_slot, breaks_slot, alone}
+use Rattle.world_laws.specs.Passing.{AreCarried, StopsIn, world_carried}
+use Rattle.world_laws.proofs.Passing.{take_all, carries_slot, stops_slot, alone}
 use Rattle.cycle_laws.specs.Ended.{SlotEnds}
+use Rattle.cycle_laws.specs.Fronts.{IsRunFront}
+use Rattle.cycle_laws.proofs.RunFronts.{run_front}
 use Rattle.cycle_laws.proofs.SlotEnding.{slot_ends}
 use Rattle.send_laws.proofs.Sending.{sent_whole, sent_few}
 use Rattle.fault_script.specs.declared.disturbance.Disturbance.{Disturbance}
@@ -38,10 +40,10 @@ module _ (slot : Slot) (to : List ℕ) (L now : Log) (steps : Steps) (w : WorldV
   pub sweep_full : slot ≡ Sweep → AreFull M (past_in w (L ++ now)) (facts_in w (L ++ now)) steps
   sweep_full is = may.stands.full (subst (λ (s : Slot). slot_index Tasks < slot_index s) (sym is) (omega arith))
 
-  -- as far as it was carried, it is a front of the due entries
-  pub few_carried : (few : ℕ) (new : Log) → AreFewSent L now slot to few w new → IsFront M L (now ++ new) w.done
+  -- as far as it was carried, it is a front of the run's due entries
+  pub few_carried : (few : ℕ) (new : Log) → AreFewSent L now slot to few w new → IsRunFront M L (now ++ new) w.done
   few_carried few new sent =
-      breaks_slot M L now new steps slot may.on w may.stands.inside few
+      run_front M L now new steps slot may.on w may.stands.inside few
       (sent_few M L now new steps slot to few w may.stands.inside sweep_full may.receivers_are sent)
 
   module _ (new : Log) (sent : AreAllSent L now slot to w new) where
@@ -51,8 +53,8 @@ module _ (slot : Slot) (to : List ℕ) (L now : Log) (steps : Steps) (w : WorldV
     all_taken : AreCarried M (L ++ now) w.done steps (take (length (slot_carries w.done (facts_in w (L ++ now)) slot)) (slot_carries w.done (facts_in w (L ++ now)) slot)) new
     all_taken = subst (λ ks. AreCarried M (L ++ now) w.done steps ks new) (sym (take_all (slot_carries w.done (facts_in w (L ++ now)) slot))) carried
 
-    pub all_carried : IsFront M L (now ++ new) w.done
-    all_carried = breaks_slot M L now new steps slot may.on w may.stands.inside (length (slot_carries w.done (facts_in w (L ++ now)) slot)) all_taken
+    pub all_carried : IsRunFront M L (now ++ new) w.done
+    all_carried = run_front M L now new steps slot may.on w may.stands.inside (length (slot_carries w.done (facts_in w (L ++ now)) slot)) all_taken
 
     module _ (after : Disturbance) (charged : AreCharged slot new w d after) where
       ends : SlotEnds M L now new steps slot after.active after.charged w

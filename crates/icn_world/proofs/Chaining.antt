@@ -11,7 +11,7 @@ use Rattle.std.specs.List.{AllByRecursion}
 use Rattle.std.specs.Result.{IsErrAnd}
 use Rattle.guards_world.specs.Worlds.{WorldValue}
 use Rattle.guards_world.specs.WorldCycle.{BusValue, Carries}
-use Rattle.world_laws.specs.Passing.{IsFront}
+use Rattle.cycle_laws.specs.Fronts.{IsRunFront}
 use Rattle.fault_script.specs.declared.disturbance.Disturbance.{Disturbance}
 use Rattle.icn_world.specs.declared.world.Halt.{Halt}
 use Rattle.icn_world.specs.declared.world.Halt.TheVariants.{NoMemory}
@@ -90,15 +90,15 @@ without_carry may P Q r w w1 d d1 b mission done count ends =
       ends = λ L now steps held. subst (λ (all : Log). Reaches Q r L all steps w1 d1) (sym (append-nil now)) (ends L now steps held);
     }
 
--- a part that finds no memory, when what was carried before is a front of what is due
+-- a part that finds no memory, when what was carried before is a front of the run's due entries
 pub without_memory : {A : Type 0} (may : List RuleValue → EntryValue → Type 0) (P : Condition) (Q : A → Condition)
     (r : Result A Halt) (w w1 : WorldValue) (d : Disturbance) (b : BusValue) → IsErrAnd r (λ x. x ≡ NoMemory) → IsKept w w1 →
-    ((L now : Log) (steps : Steps) → P L now steps w d → IsFront w.mission L now w.done) → Goes may P Q r w w1 d d b b
+    ((L now : Log) (steps : Steps) → P L now steps w d → IsRunFront w.mission L now w.done) → Goes may P Q r w w1 d d b b
 without_memory may P Q r w w1 d b none kept front =
     subst (λ (x : Result _ Halt). Goes may P Q x w w1 d d b b) (sym (err_is r NoMemory none))
     (without_carry may P Q (Err NoMemory) w w1 d d b kept.mission kept.done kept.carried
-    (λ L now steps held. subst (λ (n : ℕ). IsFront w1.mission L now n) (sym kept.done)
-    (subst (λ (M : MissionValue). IsFront M L now w.done) (sym kept.mission) (front L now steps held))))
+    (λ L now steps held. subst (λ (n : ℕ). IsRunFront w1.mission L now n) (sym kept.done)
+    (subst (λ (M : MissionValue). IsRunFront M L now w.done) (sym kept.mission) (front L now steps held))))
 
 -- a step that carries nothing, and then a part
 pub after_step : {A : Type 0} {may : List RuleValue → EntryValue → Type 0} {P : Condition} {Q : A → Condition}

@@ -1,4 +1,4 @@
--- What a cycle carried so far is a front of its due entries.
+-- What a cycle carried so far is a front of the run's due entries.
 use Rattle.std.proofs.Common.{◌≡◌, ℕ, true, [], ◌++◌, subst}
 use Rattle.std.proofs.lemmas.List.{append-nil}
 use Rattle.guards_model.specs.declared.Slot.{Slot}
@@ -8,14 +8,16 @@ use Rattle.guards_model.specs.Network.{Log}
 use Rattle.guards_model.specs.Rounds.{Steps}
 use Rattle.guards_world.specs.Worlds.{WorldValue}
 use Rattle.guards_world.specs.InCycle.{InCycle}
-use Rattle.world_laws.specs.Passing.{IsFront, world_in}
-use Rattle.world_laws.proofs.Passing.{enters_slot, breaks_slot}
+use Rattle.world_laws.specs.Passing.{world_in}
+use Rattle.world_laws.proofs.Passing.{enters_slot}
+use Rattle.cycle_laws.specs.Fronts.{IsRunFront}
+use Rattle.cycle_laws.proofs.RunFronts.{run_front}
 
 -- where the next slot of the bus is this one
 pub is_front : (M : MissionValue) (L now : Log) (steps : Steps) (slot next : Slot) (handed : ℕ) (w : WorldValue) → on_bus next ≡ true →
-    InCycle M L now steps slot (slot_index next) handed w → IsFront M L now w.done
+    InCycle M L now steps slot (slot_index next) handed w → IsRunFront M L now w.done
 is_front M L now steps slot next handed w on inside =
     let entered : InCycle M L now steps next (slot_index next) (slot_index next) (world_in M (L ++ now) steps next (slot_index next) w) =
     enters_slot M L now steps slot next (slot_index next) handed (slot_index next) w inside in
-    subst (λ (all : Log). IsFront M L all w.done) (append-nil now)
-    (breaks_slot M L now [] steps next on (world_in M (L ++ now) steps next (slot_index next) w) entered 0 tt)
+    subst (λ (all : Log). IsRunFront M L all w.done) (append-nil now)
+    (run_front M L now [] steps next on (world_in M (L ++ now) steps next (slot_index next) w) entered 0 tt)

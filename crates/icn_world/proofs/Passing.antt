@@ -1,7 +1,7 @@
 -- A cycle, passed part by part.
 use Rattle.std.proofs.Common.{◌≡◌, ℕ, ◌<◌, ◌+◌, List, [], ◌++◌, length, Some, Result, Ok, Err, map, refl, sym, ap, subst, ◌∙◌, arith}
 use Rattle.std.specs.List.{list_any}
-use Rattle.std.proofs.lemmas.List.{append_assoc}
+use Rattle.std.proofs.lemmas.List.{append_assoc, append_cancel_left}
 use Rattle.guards_model.specs.declared.Slot.TheVariants.{Tasks, Vote, Switch}
 use Rattle.guards_model.specs.BusRules.{RuleValue}
 use Rattle.guards_model.specs.Channels.{Channel, ChannelSet, has}
@@ -19,10 +19,11 @@ use Rattle.guards_runs.specs.Due.{targets_of}
 use Rattle.guards_runs.specs.Report.{running_in, cycle_record}
 use Rattle.guards_runs.specs.SlotFacts.{AreFromPlace}
 use Rattle.guards_laws.proofs.CycleParts.{active-is}
-use Rattle.guards_world.specs.Worlds.{WorldValue, HaltValue, disturbed, no_memory}
+use Rattle.guards_world.specs.Worlds.{WorldValue, HaltValue, disturbed, no_memory, last_entries}
 use Rattle.guards_world.specs.InCycle.{InCycle}
-use Rattle.guards_world.specs.WorldCycle.{BusValue, Carries, Ends}
-use Rattle.world_laws.specs.Passing.{world_after, IsFront}
+use Rattle.guards_world.specs.WorldCycle.{BusValue, Carries, Ends, MayCycle}
+use Rattle.world_laws.specs.Passing.{world_after}
+use Rattle.cycle_laws.specs.Fronts.{IsRunFront, IsUpToStop, CarriesUpToStop}
 use Rattle.cycle_laws.specs.Staying.{RoundsStay, VoteStays}
 use Rattle.cycle_laws.proofs.Finishing.{finishes, stops, runs_out}
 use Rattle.cycle_laws.proofs.Following.{follows}
@@ -80,12 +81,32 @@ ends_by : (h : HaltValue) (old w : WorldValue) (L now : Log) (steps : Steps) →
     Ends old L now (Err h) (record w { spent = Some h })
 ends_by (disturbed stop) old w L now steps m n h =
     stops old w (record w { spent = Some (disturbed stop) }) L now steps stop m n h.stops h.stop_is h.full refl refl refl
-ends_by no_memory old w L now steps m n h = runs_out old w (record w { spent = Some no_memory }) L now m n h refl refl refl
+ends_by no_memory old w L now steps m n h = runs_out old w (record w { spent = Some no_memory }) L now m n h.front refl refl refl
+
+up_to_stop_by : (h : HaltValue) (old w : WorldValue) (L now : Log) (steps : Steps) → w.mission ≡ old.mission → w.done ≡ old.done → EndsBy h L now steps w →
+    ◌≡◌ {A = Result RecordValue HaltValue} (Err h) (Err no_memory) → IsUpToStop old.mission L now old.done
+up_to_stop_by (disturbed stop) old w L now steps m n h none = absurd cc
+up_to_stop_by no_memory old w L now steps m n h none = at_world (λ M k. IsUpToStop M L now k) w old (sym m) (sym n) h.up_to_stop
 
 halts_by : {may : List RuleValue → EntryValue → Type 0} {old w : WorldValue} {bus b : BusValue} {now : Log} (L : Log) (steps : Steps) (h : HaltValue) →
     SoFar may old bus now w b → EndsBy h L now steps w → Passes may old L bus (Err h) w b
 halts_by {old = old} {w = w} {now = now} L steps h far ends =
-    record { now = now; carries = far.carries; count = far.count; ends = ends_by h old w L now steps far.mission far.done ends }
+    record {
+      now = now;
+      carries = far.carries;
+      count = far.count;
+      ends = ends_by h old w L now steps far.mission far.done ends;
+      up_to_stop = λ none. up_to_stop_by h old w L now steps far.mission far.done ends none;
+    }
+
+-- memory ran out in a call, whose entries are those that the log grew by
+pub carries_up_to_stop : {may : List RuleValue → EntryValue → Type 0} (old new : WorldValue) (bus after : BusValue) (result : Result RecordValue HaltValue) →
+    MayCycle old bus → ((L : Log) → MayPass old L → Passes may old L bus result new after) → CarriesUpToStop old bus result after
+carries_up_to_stop old new bus after result may_cycle passes unspent none now grown =
+    let L = last_entries old.carried bus.log in
+    let pass = passes L (record { stands = may_cycle.stands unspent; below = may_cycle.below; unspent = unspent }) in
+    let same : pass.now ≡ now = append_cancel_left bus.log pass.now now (sym pass.carries.log ∙ grown) in
+    subst (λ (entries : Log). IsUpToStop old.mission L entries old.done) same (pass.up_to_stop none)
 
 -- ---- part by part
 
@@ -116,7 +137,7 @@ module _ {may : List RuleValue → EntryValue → Type 0} (old : WorldValue) (d 
     pub work_fails : (w1 : WorldValue) → IsKept w w1 → (L : Log) → MayPass old L → Passes may old L bus (Err no_memory) w1 b
     work_fails w1 kept L held =
         halts_by L [] no_memory (stays far1 kept)
-        (of_kept (λ M n. IsFront M L n1 n) w w1 kept (is_front w.mission L n1 [] Tasks Vote 4 w refl (is_settled L held).stands.inside))
+        (of_kept (λ M n. IsRunFront M L n1 n) w w1 kept (is_front w.mission L n1 [] Tasks Vote 4 w refl (is_settled L held).stands.inside))
 
     module _ (w1 : WorldValue) (made : Steps) (traces : List TraceValue) (kept : IsKept w w1)
         (worked : (L now : Log) (steps : Steps) → InCycle w.mission L now steps Tasks 5 4 w → HasDoneWork made traces L now w1) where
@@ -278,4 +299,5 @@ module _ {may : List RuleValue → EntryValue → Type 0} (old : WorldValue) (d 
                 count = ap (λ (x : WorldValue). x.carried) after ∙ far.count;
                 ends = finishes old w3 new L n3 made part far.mission far.done last.stands.inside (last.stands.full (omega arith))
                     (ap (shown w3.mission.rules.channels w3.mission.width (length w3.mission.outputs)) is ∙ told L held) after;
+                up_to_stop = λ none. absurd cc;
               }

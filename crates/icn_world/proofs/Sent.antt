@@ -16,7 +16,8 @@ use Rattle.guards_runs.specs.Disturbed.{is_charge}
 use Rattle.guards_runs.specs.Due.{slot_carries}
 use Rattle.guards_world.specs.Worlds.{WorldValue}
 use Rattle.guards_world.specs.WorldCycle.{BusValue, Carries}
-use Rattle.world_laws.specs.Passing.{IsFront, world_carried}
+use Rattle.world_laws.specs.Passing.{world_carried}
+use Rattle.cycle_laws.specs.Fronts.{IsRunFront}
 use Rattle.slot_traffic.specs.Pieces.{ArrivedValue, TrafficValue}
 use Rattle.world_nodes.specs.NodeLists.{AllReceived, StandsAt}
 use Rattle.world_traffic.specs.SlotSends.{SendValue, IsEntryOf, MaySend, Sends, SendsSome, all_sends}
@@ -224,7 +225,7 @@ module _ {E : Type 0} (may : List RuleValue → EntryValue → Type 0) (slot : S
         count = ap (λ (x : WorldValue). x.carried) s.world;
         ends = λ L now steps m.
             let few = s.sent L now steps d m in
-            subst (λ (x : WorldValue). IsFront x.mission L (now ++ s.entries) x.done) (sym s.world)
+            subst (λ (x : WorldValue). IsRunFront x.mission L (now ++ s.entries) x.done) (sym s.world)
             (few_carried slot to L now steps old d m few.0 s.entries few.1);
       }
 
@@ -266,7 +267,7 @@ module _ {E : Type 0} (may : List RuleValue → EntryValue → Type 0) (slot : S
           done = ap (λ (x : WorldValue). x.done) s.world;
           count = ap (λ (x : WorldValue). x.carried) s.world;
           ends = λ L now steps m.
-              subst (λ (x : WorldValue). IsFront x.mission L (now ++ s.entries) x.done) (sym s.world)
+              subst (λ (x : WorldValue). IsRunFront x.mission L (now ++ s.entries) x.done) (sym s.world)
               (all_carried slot to L now steps old d m s.entries (s.sent L now steps d m).1);
         }
 

@@ -18,7 +18,7 @@ use Rattle.guards_laws.proofs.CycleParts.{active-is}
 use Rattle.guards_world.specs.Worlds.{WorldValue, StandsForWorld}
 use Rattle.guards_world.specs.InCycle.{InCycle}
 use Rattle.fault_script.specs.declared.disturbance.Disturbance.{Disturbance}
-use Rattle.world_laws.specs.Passing.{IsFront}
+use Rattle.cycle_laws.specs.Fronts.{IsRunFront}
 use Rattle.slot_traffic.specs.Pieces.{ArrivedValue}
 use Rattle.world_steps.specs.Arrivals.{AreArrivals, nodes_in}
 use Rattle.world_laws.proofs.Passing.{enters_slot}
@@ -61,8 +61,9 @@ enters_next slot old new d on kept enters L now steps may =
 -- ---- the requests
 
 -- nothing of the cycle was carried
-pub nothing_carried : (w : WorldValue) (d : Disturbance) (L now : Log) (steps : Steps) → IsAtStart L now steps w d → IsFront w.mission L now w.done
-nothing_carried w d L now steps start = subst (λ (entries : Log). IsFront w.mission L entries w.done) (sym start.nothing) tt
+pub nothing_carried : (w : WorldValue) (d : Disturbance) (L now : Log) (steps : Steps) → IsAtStart L now steps w d → IsRunFront w.mission L now w.done
+nothing_carried w d L now steps start =
+    subst (λ (entries : Log). IsRunFront w.mission L entries w.done) (sym start.nothing) (record { front = tt; up_to_stop = λ slot stops. omega arith })
 
 -- what opening does to the world
 abbrev pub Opens : WorldValue → WorldValue → Type 0

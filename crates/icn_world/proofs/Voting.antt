@@ -14,7 +14,7 @@ use Rattle.fault_script.specs.declared.disturbance.Disturbance.{Disturbance}
 use Rattle.slot_traffic.specs.Pieces.{ArrivedValue}
 use Rattle.world_steps.specs.Arrivals.{AreArrivals, HaveWorked}
 use Rattle.world_traffic.specs.Reading.{got_of}
-use Rattle.world_laws.specs.Passing.{IsFront}
+use Rattle.cycle_laws.specs.Fronts.{IsRunFront}
 use Rattle.arrival_laws.proofs.Contexts.{all_worked}
 use Rattle.icn_world.specs.declared.world.Halt.{Halt}
 use Rattle.icn_world.specs.declared.world.Halt.TheVariants.{NoMemory}
@@ -49,7 +49,7 @@ module _ {may : List RuleValue → EntryValue → Type 0} (w w1 : WorldValue) (d
           then passed
           (without_carry may (HasArrived Vote arrived) HasVoted (Err h) w1 w2 d1 d1 b1 kept.mission kept.done kept.carried
           (λ L now steps has. subst (λ (x : Halt). Reaches HasVoted (Err x) L now steps w2 d1) (sym none)
-          (of_kept (λ M n. IsFront M L now n) w1 w2 kept (is_front w1.mission L now steps Vote Sweep 5 w1 refl has.stands.inside))))
+          (of_kept (λ M n. IsRunFront M L now n) w1 w2 kept (is_front w1.mission L now steps Vote Sweep 5 w1 refl has.stands.inside))))
 
       pub votes_taken : {lines : Seen LineValue} →
           ((L now : Log) (steps : Steps) → InCycle w1.mission L now steps Vote 6 5 w1 → AreArrivals w1.mission (L ++ now) w1.done Vote (got_of arrived) →

@@ -3,8 +3,9 @@ use Rattle.std.specs.Prelude.{◌≡◌, ◌<◌, ◌+◌, List, length, Some, N
 use Rattle.guards_model.specs.BusRules.{RuleValue}
 use Rattle.guards_model.specs.Network.{EntryValue, Log}
 use Rattle.guards_model.specs.Texts.{RecordValue}
-use Rattle.guards_world.specs.Worlds.{WorldValue, HaltValue, StandsForWorld}
+use Rattle.guards_world.specs.Worlds.{WorldValue, HaltValue, no_memory, StandsForWorld}
 use Rattle.guards_world.specs.WorldCycle.{BusValue, Carries, Ends}
+use Rattle.cycle_laws.specs.Fronts.{IsUpToStop}
 
 -- a world that may pass a cycle, by a log that stands for it
 pub record MayPass (w : WorldValue) (L : Log) : Type 0 where
@@ -17,10 +18,12 @@ abbrev pub keeping_halt : {A : Type 0} → Result A HaltValue → WorldValue →
 keeping_halt (Ok x) w = w
 keeping_halt (Err halt) w = record w { spent = Some halt }
 
--- The entries were carried, and the cycle ended as the answer says, once the world keeps its halt.
+-- The entries were carried, and the cycle ended as the answer says, once the world keeps its halt. Where memory ran out, none
+-- were carried after a stop.
 pub record Passes (may : List RuleValue → EntryValue → Type 0) (old : WorldValue) (L : Log) (bus : BusValue)
     (result : Result RecordValue HaltValue) (new : WorldValue) (bus_after : BusValue) : Type 0 where
   pub now : Log
   pub carries : Carries may bus bus_after now
   pub count : new.carried ≡ old.carried + length now
   pub ends : Ends old L now result (keeping_halt result new)
+  pub up_to_stop : result ≡ Err no_memory → IsUpToStop old.mission L now old.done

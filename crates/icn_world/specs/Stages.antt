@@ -16,7 +16,8 @@ use Rattle.guards_runs.specs.Due.{receivers}
 use Rattle.guards_world.specs.Worlds.{WorldValue, HaltValue, disturbed, no_memory, StandsForWorld}
 use Rattle.guards_world.specs.InCycle.{InCycle}
 use Rattle.guards_world.specs.WorldCycle.{BusValue, Carries, AreFull}
-use Rattle.world_laws.specs.Passing.{StopsIn, IsFront}
+use Rattle.world_laws.specs.Passing.{StopsIn}
+use Rattle.cycle_laws.specs.Fronts.{IsRunFront}
 use Rattle.slot_traffic.specs.Pieces.{ArrivedValue}
 use Rattle.icn_world.specs.declared.world.Halt.{Halt}
 use Rattle.icn_world.specs.Halts.{halt_value}
@@ -50,17 +51,17 @@ pub record HaltsIn (L now : Log) (steps : Steps) (stop : StopValue) (w : WorldVa
 abbrev pub Condition : Type 1
 Condition = Log → Log → Steps → WorldValue → Disturbance → Type 0
 
--- a halt of this cycle: the run stops, or what was carried is a front of what is due
+-- a halt of this cycle: the run stops, or what was carried is a front of the run's due entries, which end with the stop
 abbrev pub EndsBy : HaltValue → Log → Log → Steps → WorldValue → Type 0
 EndsBy (disturbed stop) L now steps w = HaltsIn L now steps stop w
-EndsBy no_memory L now steps w = IsFront w.mission L now w.done
+EndsBy no_memory L now steps w = IsRunFront w.mission L now w.done
 
 abbrev pub Reaches : {A : Type 0} → (A → Condition) → Result A Halt → Condition
 Reaches Q (Ok x) L now steps w d = Q x L now steps w d
 Reaches Q (Err halt) L now steps w d = EndsBy (halt_value halt) L now steps w
 
 -- The part carried these entries. Whatever log, steps and entries so far the condition P held for, with the new entries Q
--- holds, the run stops, or what was carried is a front of what is due.
+-- holds, the run stops, or what was carried is a front of the run's due entries.
 pub record Goes {A : Type 0} (may : List RuleValue → EntryValue → Type 0) (P : Condition) (Q : A → Condition)
     (result : Result A Halt) (old new : WorldValue) (before after : Disturbance) (bus bus_after : BusValue) : Type 0 where
   pub entries : Log

@@ -4,6 +4,7 @@ ghost use Rattle.guards_model.specs.Network.{Log};
 ghost use Rattle.guards_model.specs.Records.{transfer_of_pair};
 ghost use Rattle.guards_runs.specs.Due.{targets_of};
 ghost use Rattle.guards_world.specs.WorldCycle.{MayCycle, CycleOf};
+ghost use Rattle.cycle_laws.specs.Fronts.{CarriesUpToStop};
 ghost use Rattle.icn_world.specs.Halts.{halt_value, with_halt_value};
 ghost use Rattle.icn_world.specs.Passes.{MayPass, Passes};
 
@@ -62,7 +63,7 @@ impl World {
     /// Passes one cycle, in its nine slots: requests, rounds, tasks, vote, sweep and final frames, and the switches. Answers
     /// the cycle's record. It stops at the end of the first slot in which a third of the active channels or more are
     /// disturbed, or when memory runs out; the world is spent then, and each later call answers the same halt again and
-    /// carries nothing.
+    /// carries nothing. Wherever memory runs out, nothing was carried after a slot that stops the run.
     pub fn cycle<B: Bus, G: Gate, C: Calls + Sync, R: Threads + Wait + Sync>(
         &mut self,
         rt: &R,
@@ -72,8 +73,10 @@ impl World {
         natives: &C,
     ) -> Result<CycleRecord, Halt>
         requires { MayCycle self.old (record { log = B.log bus.old; script = B.script bus.old }) }
-        ensures { CycleOf B.may self.old.spent self.old (record { log = B.log bus.old; script = B.script bus.old })
+        ensures passes { CycleOf B.may self.old.spent self.old (record { log = B.log bus.old; script = B.script bus.old })
             (with_halt_value result) self.new (record { log = B.log bus.new; script = B.script bus.new }) }
+        ensures up_to_stop { CarriesUpToStop self.old (record { log = B.log bus.old; script = B.script bus.old })
+            (with_halt_value result) (record { log = B.log bus.new; script = B.script bus.new }) }
     {
         if let Some(halt) = self.spent {
             return Err(halt);

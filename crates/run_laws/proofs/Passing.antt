@@ -21,6 +21,7 @@ use Rattle.guards_laws.proofs.RunIsSound.{main_theorem}
 use Rattle.guards_world.specs.Worlds.{WorldValue, HaltValue, disturbed, no_memory, StandsForWorld, last_entries, first_world}
 use Rattle.guards_world.specs.WorldCycle.{BusValue, Carries, AreFull, CycleOf, Ends, Finishes, Stops, RunsOut, MayCycle}
 use Rattle.world_laws.proofs.Standing.{first_stands}
+use Rattle.cycle_laws.specs.Fronts.{IsUpToStop, CarriesUpToStop}
 use Rattle.run_laws.specs.Runs.{AreDueBy, Ran, RanCycles, RanPart, IsBetween, PassesOn}
 use Rattle.run_laws.proofs.Standing.{all_append, each_due, due_by, from_few, from_through, due_stays, made_of_cycle, ran_part, ran_to_stop}
 
@@ -80,6 +81,8 @@ module _ (may : List RuleValue → EntryValue → Type 0) where
           entries = sym (append-nil L);
           due = ran.due;
           due_now = tt;
+          left = λ some. absurd (omega (arith, some));
+          up_to_stop = λ slot stops. omega arith;
           unstopped = ran.unstopped;
           sound = ran.sound;
         }
@@ -131,8 +134,9 @@ module _ (may : List RuleValue → EntryValue → Type 0) where
             cycles_before-append M L now w.done from,
           )
 
-      runs_out : (e : Cycle) (past : Past) → RunsOut w L now new e past → PassesOn may w.mission start w L histories (Err no_memory) new after
-      runs_out e past r =
+      runs_out : (e : Cycle) (past : Past) → w.done < w.mission.cycles → IsUpToStop w.mission L now w.done → RunsOut w L now new e past →
+          PassesOn may w.mission start w L histories (Err no_memory) new after
+      runs_out e past below up_to_stop r =
           let M = w.mission in
           let these : Cycle = cycle_at M (L ++ now) w.done in
           let before : Past = cycles_before M (L ++ now) w.done in
@@ -142,19 +146,22 @@ module _ (may : List RuleValue → EntryValue → Type 0) where
           let from = from_few M before these w.done (length now) now due in (
             now,
             ran_more M after now at.ran carries,
-            ran_part M L now w.done histories at.beside at.stands.mission at.stands.cycles at.due at.stands.unstopped due,
+            ran_part M L now w.done histories at.beside at.stands.mission at.stands.cycles (λ some. below) at.due at.stands.unstopped due up_to_stop,
             cycles_before-append M L now w.done from,
           )
 
-      ends : (result : Result RecordValue HaltValue) → w.done < w.mission.cycles → Ends w L now result new → PassesOn may w.mission start w L histories result new after
-      ends (Ok part) below (e, past, f) = goes_on part e past f
-      ends (Err (disturbed stop)) below (e, past, s) = stops_run stop e past below s
-      ends (Err no_memory) below (e, past, r) = runs_out e past r
+      ends : (result : Result RecordValue HaltValue) → w.done < w.mission.cycles → (result ≡ Err no_memory → IsUpToStop w.mission L now w.done) → Ends w L now result new →
+          PassesOn may w.mission start w L histories result new after
+      ends (Ok part) below up_to_stop (e, past, f) = goes_on part e past f
+      ends (Err (disturbed stop)) below up_to_stop (e, past, s) = stops_run stop e past below s
+      ends (Err no_memory) below up_to_stop (e, past, r) = runs_out e past below (up_to_stop refl) r
 
     pub passes_on : (M : MissionValue) (result : Result RecordValue HaltValue) (new : WorldValue) (after : BusValue) → IsBetween may M start w bus L histories → w.done < w.mission.cycles →
-        CycleOf may w.spent w bus result new after → PassesOn may M start w L histories result new after
-    passes_on M result new after at below cycled =
+        CycleOf may w.spent w bus result new after → CarriesUpToStop w bus result after → PassesOn may M start w L histories result new after
+    passes_on M result new after at below cycled no_further =
         let own : IsBetween may w.mission start w bus L histories = subst (λ k. IsBetween may k start w bus L histories) (sym at.mission) at in
         let (now, carries, count, end) = subst (λ s. CycleOf may s w bus result new after) at.unspent cycled in
         let end_of_run : Ends w L now result new = subst (λ K. Ends w K now result new) (last_of_run M at) end in
-        subst (λ k. PassesOn may k start w L histories result new after) at.mission (ends new after now own carries result below end_of_run)
+        let up_to_stop : result ≡ Err no_memory → IsUpToStop w.mission L now w.done =
+        λ none. subst (λ K. IsUpToStop w.mission K now w.done) (last_of_run M at) (no_further at.unspent none now carries.log) in
+        subst (λ k. PassesOn may k start w L histories result new after) at.mission (ends new after now own carries result below up_to_stop end_of_run)

@@ -1,13 +1,14 @@
 -- A cycle of a world goes on with the run, stops it, or breaks it off.
-use Rattle.std.proofs.Common.{◌≡◌, ◌≤◌, ◌<◌, ◌-◌, ◌==◌, ℕ, zero, suc, Bool, true, not, List, [], ◌∷◌, ◌++◌, length, Option, Some, None, refl, sym, ap, subst, ◌∙◌, arith}
-use Rattle.std.specs.Prelude.{take, drop, filter, find, flat_map, option_map}
+use Rattle.std.proofs.Common.{◌≡◌, ◌≤◌, ◌<◌, ◌-◌, ◌==◌, ℕ, zero, suc, Bool, true, false, cond, not, List, [], ◌∷◌, ◌++◌, length, Option, Some, None, refl, sym, ap, subst, ◌∙◌, arith}
+use Rattle.std.specs.Prelude.{take, drop, filter, find, flat_map, nat_lt, option_map}
 use Rattle.std.specs.List.{AllZip, AllByRecursion, list_all}
+use Rattle.std.proofs.lemmas.Bool.{ltb-true}
 use Rattle.std.proofs.lemmas.List.{length-append}
 use Rattle.std.proofs.lemmas.Grind.{flat_map-append}
 use Rattle.std.proofs.Math.Seq.{take-append_seam, drop-append_seam}
 use Rattle.guards_model.specs.declared.Slot.{Slot}
 use Rattle.guards_model.specs.declared.Slot.TheVariants.{Request, Round1, Round2, Round3, Tasks, Vote, Sweep, Final, Switch, Output}
-use Rattle.guards_model.specs.Slots.{slot_index, every_slot, up_to}
+use Rattle.guards_model.specs.Slots.{slot_index, every_slot, up_to, on_bus}
 use Rattle.guards_model.proofs.BoolTests.{both, and_true}
 use Rattle.guards_model.specs.Missions.{MissionValue, IsMission}
 use Rattle.guards_model.specs.Network.{EntryValue, Log, AreFrom}
@@ -24,6 +25,9 @@ use Rattle.guards_laws.proofs.DueEntries.{all_of_cycle, all_through, entries_cyc
 use Rattle.guards_laws.proofs.Agreement.{broken_run}
 use Rattle.guards_laws.proofs.RunIsSound.{main_theorem}
 use Rattle.guards_world.specs.WorldCycle.{AreFull}
+use Rattle.world_laws.proofs.Carrying.{earlier_slots}
+use Rattle.cycle_laws.specs.Fronts.{IsUpToStop}
+use Rattle.cycle_laws.proofs.RunFronts.{later_through}
 use Rattle.run_laws.specs.Runs.{AreDueBy, RanToStop, RanPart}
 
 -- ---- lists
@@ -124,9 +128,10 @@ module _ (M : MissionValue) (L now : Log) (n : ℕ) (histories : Histories) wher
       (L, now, refl, due_by M histories past L (due_stays from due), subst (λ c. AllZip (IsDue M past e) (take few (cycle_carries c e)) now) (sym (length-cycles_before M (L ++ now) n)) last) in
       main_theorem M (L ++ now) n mission within (broken_run M (L ++ now) n few front (unstopped_stays from unstopped))
 
-  pub ran_part : length histories ≡ n → IsMission M → n ≤ M.cycles → AreDueBy M histories (cycles_before M L n) L → stop_of (cycles_before M L n) ≡ None →
-      AllZip (IsDue M (cycles_before M (L ++ now) n) (cycle_at M (L ++ now) n)) (take (length now) (cycle_carries n (cycle_at M (L ++ now) n))) now → RanPart M n (L ++ now) histories
-  ran_part beside mission within due unstopped last =
+  pub ran_part : length histories ≡ n → IsMission M → n ≤ M.cycles → (0 < length now → n < M.cycles) → AreDueBy M histories (cycles_before M L n) L → stop_of (cycles_before M L n) ≡ None →
+      AllZip (IsDue M (cycles_before M (L ++ now) n) (cycle_at M (L ++ now) n)) (take (length now) (cycle_carries n (cycle_at M (L ++ now) n))) now → IsUpToStop M L now n →
+      RanPart M n (L ++ now) histories
+  ran_part beside mission within left due unstopped last up_to_stop =
       let from = from_few M (cycles_before M (L ++ now) n) (cycle_at M (L ++ now) n) n (length now) now last in
       record {
         within = within;
@@ -136,6 +141,8 @@ module _ (M : MissionValue) (L now : Log) (n : ℕ) (histories : Histories) wher
         entries = refl;
         due = due_stays from due;
         due_now = last;
+        left = left;
+        up_to_stop = up_to_stop;
         unstopped = unstopped_stays from unstopped;
         sound = sound_part (length now) mission within from due unstopped last;
       }
@@ -175,6 +182,86 @@ module _ (M : MissionValue) (L now : Log) (n : ℕ) (histories : Histories) wher
         sound = sound_part (length now) mission (omega (arith, below)) from due unstopped (as_few stop.slot last);
       }
 
+-- ---- the first stop
+
+-- the slots before and after a slot of the bus
+around : (slot : Slot) → on_bus slot ≡ true → every_slot ≡ take (slot_index slot) every_slot ++ slot ∷ drop (suc (slot_index slot)) every_slot
+around Request on = refl
+around Round1 on = refl
+around Round2 on = refl
+around Round3 on = refl
+around Tasks on = refl
+around Vote on = refl
+around Sweep on = refl
+around Final on = refl
+around Switch on = refl
+around Output on = absurd cc
+
+-- of earlier slots, a slot that passes, and others, the first that passes is not later than it
+first_by : (p : Slot → Bool) (earlier rest : List Slot) (first slot : Slot) → list_all (λ s. nat_lt (slot_index s) (slot_index slot)) earlier ≡ true → p slot ≡ true →
+    find p (earlier ++ slot ∷ rest) ≡ Some first → slot_index first ≤ slot_index slot
+first_by p [] rest first slot low passes found =
+    let same : Some slot ≡ Some first = sym (ap (λ b. cond b (Some slot) (find p rest)) passes) ∙ found in
+    let one : slot ≡ first = cc in
+    omega (arith, ap slot_index one)
+first_by p (s ∷ earlier) rest first slot low passes found =
+    let parts = both (nat_lt (slot_index s) (slot_index slot)) (list_all (λ t. nat_lt (slot_index t) (slot_index slot)) earlier) low in
+    by_test (p s) parts.0 (λ h. first_by p earlier rest first slot parts.1 passes h) found
+  where
+    by_test : (b : Bool) → nat_lt (slot_index s) (slot_index slot) ≡ true → (find p (earlier ++ slot ∷ rest) ≡ Some first → slot_index first ≤ slot_index slot) →
+        cond b (Some s) (find p (earlier ++ slot ∷ rest)) ≡ Some first → slot_index first ≤ slot_index slot
+    by_test true early more h =
+        let one : s ≡ first = cc in
+        omega (arith, ltb-true (slot_index s) (slot_index slot) early, ap slot_index one)
+    by_test false early more h = more h
+
+last_index : (slot : Slot) → slot_index slot ≤ 9
+last_index Request = omega arith
+last_index Round1 = omega arith
+last_index Round2 = omega arith
+last_index Round3 = omega arith
+last_index Tasks = omega arith
+last_index Vote = omega arith
+last_index Sweep = omega arith
+last_index Final = omega arith
+last_index Switch = omega arith
+last_index Output = omega arith
+
+-- the first slot that passes is not later than another that does
+first_found : (p : Slot → Bool) (first slot : Slot) → find p every_slot ≡ Some first → p slot ≡ true → slot_index first ≤ slot_index slot
+first_found p first slot found passes = by_bus (on_bus slot) refl
+  where
+    by_bus : (b : Bool) → on_bus slot ≡ b → slot_index first ≤ slot_index slot
+    by_bus true on =
+        first_by p (take (slot_index slot) every_slot) (drop (suc (slot_index slot)) every_slot) first slot (earlier_slots slot on) passes
+        (ap (find p) (sym (around slot on)) ∙ found)
+    by_bus false off = omega (arith, last_index first, at_end slot off)
+      where
+        at_end : (s : Slot) → on_bus s ≡ false → slot_index s ≡ 9
+        at_end Output h = refl
+        at_end Request h = absurd cc
+        at_end Round1 h = absurd cc
+        at_end Round2 h = absurd cc
+        at_end Round3 h = absurd cc
+        at_end Tasks h = absurd cc
+        at_end Vote h = absurd cc
+        at_end Sweep h = absurd cc
+        at_end Final h = absurd cc
+        at_end Switch h = absurd cc
+
+-- the slot of a stop is the first that stops the run
+first_stop : (n : ℕ) (e : Cycle) (stop : StopValue) → stop_in n e ≡ Some stop → (slot : Slot) → halts n e slot ≡ true → slot_index stop.slot ≤ slot_index slot
+first_stop n e stop told slot stops = by (find (halts n e) every_slot) refl told
+  where
+    of_slot : Slot → StopValue
+    of_slot s = record { cycle = n; slot = s; set = disturbed_channels n e s; active = e.active }
+
+    by : (found : Option Slot) → find (halts n e) every_slot ≡ found → option_map of_slot found ≡ Some stop → slot_index stop.slot ≤ slot_index slot
+    by None is h = absurd cc
+    by (Some first) is h =
+        let same : of_slot first ≡ stop = cc in
+        subst (λ (s : StopValue). slot_index s.slot ≤ slot_index slot) same (first_found (halts n e) first slot is stops)
+
 -- a run that stopped is one that broke off
 pub stop_breaks_off : (M : MissionValue) (n : ℕ) (stop : StopValue) (L : Log) (histories : Histories) → RanToStop M n stop L histories → RanPart M n L histories
 stop_breaks_off M n stop L histories ran =
@@ -182,9 +269,10 @@ stop_breaks_off M n stop L histories ran =
     let e = cycle_at M L n in
     let whole = ran.entries in
     let last : AllZip (IsDue M past e) (carries_through n e stop.slot) ran.now = each_due M past e ran.steps (carries_through n e stop.slot) ran.now ran.due_now in
+    let size : length ran.now ≡ length (carries_through n e stop.slot) = zip_length (IsDue M past e) (carries_through n e stop.slot) ran.now last in
     let (rest, all) = through n e stop.slot in
     let these : take (length ran.now) (cycle_carries n e) ≡ carries_through n e stop.slot =
-    ap (take (length ran.now)) all ∙ ap (λ k. take k (carries_through n e stop.slot ++ rest)) (zip_length (IsDue M past e) (carries_through n e stop.slot) ran.now last) ∙ take-append_seam (carries_through n e stop.slot) rest in
+    ap (take (length ran.now)) all ∙ ap (λ k. take k (carries_through n e stop.slot ++ rest)) size ∙ take-append_seam (carries_through n e stop.slot) rest in
     record {
       within = omega (arith, ran.within);
       beside = ran.beside;
@@ -193,6 +281,10 @@ stop_breaks_off M n stop L histories ran =
       entries = ran.entries;
       due = ran.due;
       due_now = subst (λ carries. AllZip (IsDue M past e) carries ran.now) (sym these) last;
+      left = λ some. ran.within;
+      up_to_stop =
+          subst (λ (X : Log). (slot : Slot) → halts n (cycle_at M X n) slot ≡ true → length ran.now ≤ length (carries_through n (cycle_at M X n) slot)) whole
+          (λ slot stops. omega (arith, size, later_through n e stop.slot slot (first_stop n e stop ran.stopped slot stops)));
       unstopped = ran.unstopped;
       sound = ran.sound;
     }

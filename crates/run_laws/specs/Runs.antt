@@ -16,6 +16,7 @@ use Rattle.guards_runs.specs.Soundness.{IsSound}
 use Rattle.guards_runs.specs.Report.{cycle_record, latest_steps, earlier_steps, cycle_parts, report, traced}
 use Rattle.guards_world.specs.Worlds.{WorldValue, HaltValue, disturbed, no_memory, StandsForWorld}
 use Rattle.guards_world.specs.WorldCycle.{BusValue, AreFull}
+use Rattle.cycle_laws.specs.Fronts.{IsUpToStop}
 
 -- ---- on the bus
 
@@ -58,7 +59,8 @@ pub record RanToStop (M : MissionValue) (n : ℕ) (stop : StopValue) (L : Log) (
   pub stopped : stop_in n (cycle_at M L n) ≡ Some stop
   pub sound : IsSound M L n
 
--- The first n cycles ran, and of the next one's due entries the first few were carried.
+-- The first n cycles ran, and of the next one's due entries the first few were carried: of a cycle that the mission has, and none
+-- after the slot that stops the run.
 pub record RanPart (M : MissionValue) (n : ℕ) (L : Log) (histories : Histories) : Type 0 where
   pub within : n ≤ M.cycles
   pub beside : length histories ≡ n
@@ -67,6 +69,8 @@ pub record RanPart (M : MissionValue) (n : ℕ) (L : Log) (histories : Histories
   pub entries : L ≡ before ++ now
   pub due : AreDueBy M histories (cycles_before M L n) before
   pub due_now : AllZip (IsDue M (cycles_before M L n) (cycle_at M L n)) (take (length now) (cycle_carries n (cycle_at M L n))) now
+  pub left : 0 < length now → n < M.cycles
+  pub up_to_stop : IsUpToStop M before now n
   pub unstopped : stop_of (cycles_before M L n) ≡ None
   pub sound : IsSound M L n
 

@@ -11,6 +11,7 @@ ghost use Rattle.guards_runs.specs.Cycles.{cycles_before, cycle_at};
 ghost use Rattle.guards_runs.specs.Disturbed.{stop_in, stop_of};
 ghost use Rattle.guards_world.specs.Worlds.{WorldValue, HaltValue, first_world};
 ghost use Rattle.guards_world.specs.WorldCycle.{BusValue, CycleOf};
+ghost use Rattle.cycle_laws.specs.Fronts.{CarriesUpToStop};
 ghost use Rattle.run_laws.specs.Runs.{IsBetween, PassesOn, RanCycles, RanToStop, RanPart, parts_so_far, run_text, with_unfinished};
 
 use icn_bus::Bus;
@@ -21,12 +22,13 @@ pub fn runs_begin<B: Bus>()
         IsBetween B.may M bus (first_world M) bus [] [] }
 {}
 
-/// A cycle of the world goes on with the run, stops it, or breaks it off.
+/// A cycle of the world goes on with the run, stops it, or breaks it off; where memory runs out, nothing was carried after a slot
+/// that stops the run.
 pub fn cycles_pass_on<B: Bus>()
     ensures { (M : MissionValue) (start bus : BusValue) (w : WorldValue) (L : Log)
         (histories : Histories) (result : Result RecordValue HaltValue) (new : WorldValue) (after : BusValue) →
         IsBetween B.may M start w bus L histories → w.done < w.mission.cycles → CycleOf B.may w.spent w bus result new after →
-        PassesOn B.may M start w L histories result new after }
+        CarriesUpToStop w bus result after → PassesOn B.may M start w L histories result new after }
 {}
 
 /// Between two cycles, those so far ran; and a run that stopped is one that broke off.

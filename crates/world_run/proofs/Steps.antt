@@ -22,6 +22,7 @@ use Rattle.ideal_run.specs.declared.output.WriteStop.TheVariants as write
 use Rattle.icn_world.specs.declared.world.Halt.{Halt}
 use Rattle.icn_world.specs.declared.world.Halt.TheVariants as halt
 use Rattle.icn_world.specs.Halts.{halt_value}
+use Rattle.cycle_laws.specs.Fronts.{CarriesUpToStop}
 use Rattle.run_laws.specs.Runs.{RanCycles, RanToStop, RanPart, IsBetween, PassesOn, parts_so_far, run_text, with_unfinished}
 use Rattle.run_laws.proofs.Standing.{stop_breaks_off, stop_cycle}
 use Rattle.run_laws.proofs.Passing.{begins, passes_on, ran_cycles, ran_short}
@@ -104,7 +105,7 @@ module _ (may : List RuleValue → EntryValue → Type 0) (trace : Bool) (M : Mi
 
     module _ (part : RecordValue) (cycled : CycleOf may w.spent w bus (Ok part) new after) where
       p : PassesOn may M start w L histories (Ok part) new after
-      p = passes_on may start bus w L histories M (Ok part) new after between below cycled
+      p = passes_on may start bus w L histories M (Ok part) new after between below cycled (λ unspent none. absurd cc)
 
       abbrev K : Log
       K = L ++ p.0
@@ -172,7 +173,7 @@ module _ (may : List RuleValue → EntryValue → Type 0) (trace : Bool) (M : Mi
 
     stops : (s : StopValue) → CycleOf may w.spent w bus (Err (disturbed s)) new after → Refuses out out' (stop_text s) → RunsToStop may trace M s start after begun out'
     stops s cycled line =
-        let (now, ran, stopped, same) = passes_on may start bus w L histories M (Err (disturbed s)) new after between below cycled in
+        let (now, ran, stopped, same) = passes_on may start bus w L histories M (Err (disturbed s)) new after between below cycled (λ unspent none. absurd cc) in
         let K = L ++ now in
         let at_cycle : s.cycle ≡ w.done = stop_cycle w.done (cycle_at M K w.done) s stopped.stopped in
         let text : run_text trace M K (with_unfinished (M.cycles - w.done) histories) ≡ told ++ stop_line s =
@@ -194,22 +195,22 @@ module _ (may : List RuleValue → EntryValue → Type 0) (trace : Bool) (M : Mi
 
     stops_short : (s : StopValue) → CycleOf may w.spent w bus (Err (disturbed s)) new after → out' ≡ out → RunsShort may trace M start after begun out'
     stops_short s cycled kept =
-        let (now, ran, stopped, same) = passes_on may start bus w L histories M (Err (disturbed s)) new after between below cycled in
+        let (now, ran, stopped, same) = passes_on may start bus w L histories M (Err (disturbed s)) new after between below cycled (λ unspent none. absurd cc) in
         (L ++ now, histories, w.done, ran, stop_breaks_off M w.done s (L ++ now) histories stopped, front_is_written (L ++ now) same kept, ap (λ (o : SinkView). o.faults) kept ∙ at.4)
 
-    runs_out : CycleOf may w.spent w bus (Err no_memory) new after → out' ≡ out → RunsShort may trace M start after begun out'
-    runs_out cycled kept =
-        let (now, ran, part, same) = passes_on may start bus w L histories M (Err no_memory) new after between below cycled in
+    runs_out : CycleOf may w.spent w bus (Err no_memory) new after → CarriesUpToStop w bus (Err no_memory) after → out' ≡ out → RunsShort may trace M start after begun out'
+    runs_out cycled no_further kept =
+        let (now, ran, part, same) = passes_on may start bus w L histories M (Err no_memory) new after between below cycled no_further in
         (L ++ now, histories, w.done, ran, part, front_is_written (L ++ now) same kept, ap (λ (o : SinkView). o.faults) kept ∙ at.4)
 
-    pub step_halted : (h : Halt) (stop : RunStop) → CycleOf may w.spent w bus (Err (halt_value h)) new after → TellsHalt h out out' stop → Runs may trace M start after begun out' (Err stop)
-    step_halted (halt.Disturbed cycle slot set active) (Disturbed cycle' slot' set' active') cycled line =
+    pub step_halted : (h : Halt) (stop : RunStop) → CycleOf may w.spent w bus (Err (halt_value h)) new after → CarriesUpToStop w bus (Err (halt_value h)) after → TellsHalt h out out' stop → Runs may trace M start after begun out' (Err stop)
+    step_halted (halt.Disturbed cycle slot set active) (Disturbed cycle' slot' set' active') cycled no_further line =
         subst (λ s. RunsToStop may trace M s start after begun out') (sym line.0) (stops (stop_value cycle slot set active) cycled line.1)
-    step_halted (halt.Disturbed cycle slot set active) WriteFault cycled line = absurd line
-    step_halted (halt.Disturbed cycle slot set active) NoMemory cycled line = stops_short (stop_value cycle slot set active) cycled line
-    step_halted halt.NoMemory (Disturbed cycle' slot' set' active') cycled line = absurd cc
-    step_halted halt.NoMemory WriteFault cycled line = absurd cc
-    step_halted halt.NoMemory NoMemory cycled line = runs_out cycled line.1
+    step_halted (halt.Disturbed cycle slot set active) WriteFault cycled no_further line = absurd line
+    step_halted (halt.Disturbed cycle slot set active) NoMemory cycled no_further line = stops_short (stop_value cycle slot set active) cycled line
+    step_halted halt.NoMemory (Disturbed cycle' slot' set' active') cycled no_further line = absurd cc
+    step_halted halt.NoMemory WriteFault cycled no_further line = absurd cc
+    step_halted halt.NoMemory NoMemory cycled no_further line = runs_out cycled no_further line.1
 
   -- ---- the first and the last line
 

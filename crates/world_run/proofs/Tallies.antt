@@ -24,6 +24,7 @@ use Rattle.ideal_run.specs.declared.output.WriteStop.TheVariants as write
 use Rattle.icn_world.specs.declared.world.Halt.{Halt}
 use Rattle.icn_world.specs.declared.world.Halt.TheVariants as halt
 use Rattle.icn_world.specs.Halts.{halt_value}
+use Rattle.cycle_laws.specs.Fronts.{CarriesUpToStop}
 use Rattle.run_laws.specs.Runs.{Ran, RanCycles, RanToStop, RanPart, IsBetween, PassesOn}
 use Rattle.run_laws.specs.Summaries.{joins_in, removals_in, last_votes, summary}
 use Rattle.run_laws.proofs.Standing.{stop_breaks_off, stop_cycle}
@@ -64,7 +65,7 @@ module _ (may : List RuleValue → EntryValue → Type 0) (M : MissionValue) (st
         t'.last ≡ first_votes part.lines → TalliesTo may number M start out (suc w.done) new after out t' (Ok tt)
     tally_done part cycled joins removals last =
         let (L, histories, between, tallied) = at in
-        let (now, steps, next, done, same, told) = passes_on may start bus w L histories M (Ok part) new after between below cycled in
+        let (now, steps, next, done, same, told) = passes_on may start bus w L histories M (Ok part) new after between below cycled (λ unspent none. absurd cc) in
         let K = L ++ now in
         let e = cycle_at M K w.done in
         let joined : part.joined ≡ e.joined = ap (λ (r : RecordValue). r.joined) told in
@@ -81,30 +82,30 @@ module _ (may : List RuleValue → EntryValue → Type 0) (M : MissionValue) (st
     stops : (s : StopValue) → CycleOf may w.spent w bus (Err (disturbed s)) new after → Refuses out out' (stop_text s) → SummarizesToStop may number M s start after out out'
     stops s cycled line =
         let (L, histories, between, tallied) = at in
-        let (now, ran, stopped, same) = passes_on may start bus w L histories M (Err (disturbed s)) new after between below cycled in
+        let (now, ran, stopped, same) = passes_on may start bus w L histories M (Err (disturbed s)) new after between below cycled (λ unspent none. absurd cc) in
         let at_cycle : s.cycle ≡ w.done = stop_cycle w.done (cycle_at M (L ++ now) w.done) s stopped.stopped in
         (L ++ now, histories, ran, subst (λ n. RanToStop M n s (L ++ now) histories) (sym at_cycle) stopped, subst (Refuses out out') (stop_is s) line)
 
     stops_short : (s : StopValue) → CycleOf may w.spent w bus (Err (disturbed s)) new after → out' ≡ out → Summarizes may number M start after out out' (Err NoMemory)
     stops_short s cycled kept =
         let (L, histories, between, tallied) = at in
-        let (now, ran, stopped, same) = passes_on may start bus w L histories M (Err (disturbed s)) new after between below cycled in
+        let (now, ran, stopped, same) = passes_on may start bus w L histories M (Err (disturbed s)) new after between below cycled (λ unspent none. absurd cc) in
         (L ++ now, histories, w.done, ran, stop_breaks_off M w.done s (L ++ now) histories stopped, kept)
 
-    runs_out : CycleOf may w.spent w bus (Err no_memory) new after → out' ≡ out → Summarizes may number M start after out out' (Err NoMemory)
-    runs_out cycled kept =
+    runs_out : CycleOf may w.spent w bus (Err no_memory) new after → CarriesUpToStop w bus (Err no_memory) after → out' ≡ out → Summarizes may number M start after out out' (Err NoMemory)
+    runs_out cycled no_further kept =
         let (L, histories, between, tallied) = at in
-        let (now, ran, part, same) = passes_on may start bus w L histories M (Err no_memory) new after between below cycled in
+        let (now, ran, part, same) = passes_on may start bus w L histories M (Err no_memory) new after between below cycled no_further in
         (L ++ now, histories, w.done, ran, part, kept)
 
-    pub tally_halted : (h : Halt) (stop : RunStop) → CycleOf may w.spent w bus (Err (halt_value h)) new after → TellsHalt h out out' stop → Summarizes may number M start after out out' (Err stop)
-    tally_halted (halt.Disturbed cycle slot set active) (Disturbed cycle' slot' set' active') cycled line =
+    pub tally_halted : (h : Halt) (stop : RunStop) → CycleOf may w.spent w bus (Err (halt_value h)) new after → CarriesUpToStop w bus (Err (halt_value h)) after → TellsHalt h out out' stop → Summarizes may number M start after out out' (Err stop)
+    tally_halted (halt.Disturbed cycle slot set active) (Disturbed cycle' slot' set' active') cycled no_further line =
         subst (λ s. SummarizesToStop may number M s start after out out') (sym line.0) (stops (stop_value cycle slot set active) cycled line.1)
-    tally_halted (halt.Disturbed cycle slot set active) WriteFault cycled line = absurd line
-    tally_halted (halt.Disturbed cycle slot set active) NoMemory cycled line = stops_short (stop_value cycle slot set active) cycled line
-    tally_halted halt.NoMemory (Disturbed cycle' slot' set' active') cycled line = absurd cc
-    tally_halted halt.NoMemory WriteFault cycled line = absurd cc
-    tally_halted halt.NoMemory NoMemory cycled line = runs_out cycled line.1
+    tally_halted (halt.Disturbed cycle slot set active) WriteFault cycled no_further line = absurd line
+    tally_halted (halt.Disturbed cycle slot set active) NoMemory cycled no_further line = stops_short (stop_value cycle slot set active) cycled line
+    tally_halted halt.NoMemory (Disturbed cycle' slot' set' active') cycled no_further line = absurd cc
+    tally_halted halt.NoMemory WriteFault cycled no_further line = absurd cc
+    tally_halted halt.NoMemory NoMemory cycled no_further line = runs_out cycled no_further line.1
 
   -- the summary of all cycles
   module _ (number : ℕ) (w : WorldValue) (bus : BusValue) (out out' : SinkView) (t : Tally) (at : IsTallied may M start w bus t) (all : w.done ≡ M.cycles) where

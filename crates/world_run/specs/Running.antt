@@ -94,7 +94,8 @@ module _ (may : List RuleValue → EntryValue → Type 0) (trace : Bool) (M : Mi
       × WroteParts out.written out'.written (parts_of trace M histories (cycles_before M L (min whole M.cycles)) None) whole
       × Rose out.faults out'.faults
 
-  -- Memory ran out: some cycles ran, and a front of the next one's entries was carried; a front of the text was written.
+  -- Memory ran out: some cycles ran, and a front of the next one's entries was carried, none after a stop; a front of the text was
+  -- written.
   abbrev pub RunsShort : BusValue → BusValue → SinkView → SinkView → Type 0
   RunsShort bus bus' out out' =
       (L : Log) × (histories : Histories) × (n : ℕ) × Ran may M bus bus' L × RanPart M n L histories
