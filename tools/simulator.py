@@ -7,6 +7,7 @@ import itertools
 SLOTS = ['request', 'round1', 'round2', 'round3', 'tasks', 'vote', 'sweep', 'final', 'switch']
 COUNT_CAP = 16777216
 SWITCHBOARD = 7
+ACTUATOR = 8
 
 
 # ---- frames
@@ -251,6 +252,8 @@ class Run:
         self.switches_on = tuple(range(self.mission['channels']))
         self.log, self.steps, self.joins, self.stop_at = [], {}, {}, None
         self.report, self.traced = [], []
+        self.actuator = self.mission.get('actuator')
+        self.out = list(self.actuator['start']) if self.actuator else []
 
     def run(self):
         self.say(f"guards channels {self.mission['channels']} cycles {self.mission['cycles']}")
@@ -279,7 +282,7 @@ class Run:
     def counted(self, c, slot, sender, to, piece):
         """the body of a delivered piece, where it counts"""
         frame = decoded(piece) if piece is not None else None
-        kind = 'exchange' if slot.startswith('round') else slot
+        kind = 'exchange' if slot.startswith('round') else 'vote' if slot == 'output' else slot
         if frame is None or frame[:3] != (self.mission['version'], sender, c) or frame[3][0] != kind:
             return None
         body, mission = frame[3], self.mission
@@ -343,7 +346,11 @@ class Run:
                 self.decide(c)
             if slot == 'sweep':
                 self.close(c)
+        if self.actuator and not self.drive(c):
+            return False
         self.tell(c)
+        if self.actuator:
+            self.say(f'out {listed(self.out)}')
         self.end_cycle()
         return True
 
@@ -557,6 +564,20 @@ class Run:
             if self.nodes[q].mode == 'joining':
                 replica = [tuple(block) for block in self.nodes[q].replica]
                 self.joins[c, q] = dict(have=self.nodes[q].have, replica=replica, content=content)
+
+    def drive(self, c):
+        """the slot output: the actuator takes the voted words of each line, and its own move towards the majority"""
+        frames = []
+        for p in self.up():
+            body = self.carry(c, 'output', p, ACTUATOR, ('vote', tuple(self.voted[p])))
+            frames += [body[1]] if body else []
+        if self.stops(c, 'output'):
+            return False
+        for k, step in enumerate(self.actuator['steps']):
+            wanted = majority([words[k] for words in frames])
+            if wanted is not None:
+                self.out[k] += max(-step, min(step, wanted - self.out[k]))
+        return True
 
     def end_cycle(self):
         on = len(self.switches_on)

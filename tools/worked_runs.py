@@ -105,6 +105,24 @@ RUNS = [
     ('down_at_the_end', 'A channel that is declared joined is down, and stays so to the end of the run.',
      Run(count_of(cycles=8), faults=returns(4) + [('crash', 4, 4, 'round1')])),
 ]
+BY_THREE = dict(steps=[3], start=[0])
+
+# runs of a mission with an actuator, whose literals stand in output_rows: --print prints their logs too
+OUTPUT_RUNS = [
+    ('moves_by_steps', 'The word moves by 3 towards 5, and then by 3 towards 10.', Run(sum_of(actuator=BY_THREE))),
+    ('loss_is_borne', 'So it does where one of four output frames is lost.',
+     Run(sum_of(actuator=BY_THREE), [lost(0, 'output', 1)])),
+    ('forgery_is_borne', 'So it does where one is forged.',
+     Run(sum_of(actuator=BY_THREE), [(0, 'output', 1, None, encoded(1, 1, 0, ('vote', (9,))))])),
+    ('loss_stops_three', 'One of three lost output frames stops the run in the output slot.',
+     Run(sum_of(channels=3, actuator=BY_THREE), [lost(0, 'output', 2)])),
+    ('damage_counts', 'A damaged channel counts as disturbed, and one lost output frame more stops five channels.',
+     Run(count_of(cycles=11, threshold=131072, actuator=BY_THREE), [lost(1, 'output', 0)], [('damage', 2, 1, 0, 0, 100)])),
+    ('crash_counts', 'A channel that crashed in the cycle sends nothing to the actuator.',
+     Run(count_of(cycles=2, actuator=BY_THREE),
+         faults=[('damage', 2, 1, 0, 0, 100), ('crash', 2, 1, 'vote'), ('restart', 2, 3)])),
+]
+
 # of these the text with trace lines is computed too
 TRACED = ['restored']
 
@@ -186,6 +204,13 @@ def rules(m):
     return ''.join(f'        {name} = {values[name]};\n' for name in names)
 
 
+def actuator(drives):
+    if drives is None:
+        return 'None'
+    steps, start = (items(map(integer, drives[key])) for key in ('steps', 'start'))
+    return f'Some (record {{ steps = {steps}; start = {start} }})'
+
+
 def mission(run):
     m = run.mission
     table = items('(record { name = codes "%s"; writes = %s } ∷ [])' % (m['name'], items(write(*w) for w in row))
@@ -202,7 +227,8 @@ def mission(run):
       table = {table};
       outputs = {items('(%d, %d)' % o for o in m['outputs'])};
       sensors = {sensors};
-      script = {script}
+      script = {script};
+      actuator = {actuator(m.get('actuator'))};
     }}"""
 
 
@@ -389,7 +415,7 @@ def computed(*fields):
 
 
 MISSION = ('record { rules = refl; cycles = refl; width = refl; return_after = refl; initial = refl; table = refl; '
-           'outputs = refl; sensors = refl; script = refl }')
+           'outputs = refl; sensors = refl; script = refl; actuator = refl }')
 IS_RUN = 'run_if row.mission row.log row.histories row.mission.cycles refl refl refl'
 VALUES = {
     'run': f'is_mission = {MISSION}; is_run = {IS_RUN}; ' + computed('reported', 'sent', 'delivered', 'switches'),
@@ -429,12 +455,15 @@ def put(path, content):
 
 
 def main():
-    for _, _, run in RUNS:
+    for _, _, run in RUNS + OUTPUT_RUNS:
         run.run()
     if '--print' in sys.argv:
         for name, title, run in RUNS:
             print(f'== {name}: {title} {len(run.log)} entries')
             print('\n'.join(run.report))
+        for name, title, run in OUTPUT_RUNS:
+            print(f'== {name}: {title} {len(run.log)} entries')
+            print('\n'.join(run.report + entries([e for e in run.log if e[1] == 'output'])))
         return
     for name, title, run in RUNS:
         put(f'specs/{module_name(name)}.antt', module(title, run, name in TRACED))

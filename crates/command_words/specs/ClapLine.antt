@@ -3,21 +3,25 @@ use Rattle.std.specs.Prelude.{ℕ, Bool, true, false, List, [], Option, Some, No
 use Rattle.std.specs.Option.{option_map_or}
 use Rattle.std.specs.Str.{bytes_eq}
 use Rattle.clap.specs.Words.{App, Row, Rule, Shape, Text, first_of, new_app, new_rule, with_rule, with_subcommand}
-use Rattle.clap.specs.declared.builder.action.ArgAction.TheVariants.{SetTrue}
+use Rattle.clap.specs.declared.builder.action.ArgAction.TheVariants.{Set, SetTrue}
 use Rattle.command_words.specs.declared.command.Command.{Command}
 use Rattle.command_words.specs.declared.command.Command.TheVariants.{Run, Check, Demo}
-use Rattle.command_words.specs.Commands.{number_of}
+use Rattle.command_words.specs.Commands.{number_of, run_last}
 
 -- the flag `--trace`
 abbrev pub trace_rule : Rule
 trace_rule = record (new_rule (codes "trace")) { long = Some (codes "trace"); action = Some SetTrue }
+
+-- the option `--last`, which has a value
+abbrev pub last_rule : Rule
+last_rule = record (new_rule (codes "last")) { long = Some (codes "last"); action = Some Set }
 
 -- a number, which has to be there
 abbrev pub number_rule : Rule
 number_rule = record (new_rule (codes "number")) { required = true }
 
 abbrev pub run_shape : Shape
-run_shape = (with_rule (new_app (codes "run")) trace_rule).top
+run_shape = (with_rule (with_rule (new_app (codes "run")) trace_rule) last_rule).top
 
 abbrev pub check_shape : Shape
 check_shape = (new_app (codes "check")).top
@@ -45,10 +49,18 @@ has_flag id rows = option_map_or (λ text. bytes_eq text (codes "true")) (first_
 unfoldable pub given_number : Text → List Row → Option ℕ
 given_number id rows = option_and_then number_of (first_of id rows)
 
+-- the command `run`, with the flag or without, and with the value of `--last` where it was given
+abbrev pub run_given : Bool → Option Text → Option Command
+run_given trace None = Some (Run trace None)
+run_given trace (Some text) = run_last trace text
+
+unfoldable pub run_found : List Row → Option Command
+run_found rows = run_given (has_flag (codes "trace") rows) (first_of (codes "last") rows)
+
 -- the command of a subcommand with its matches
 unfoldable pub command_named : Text → List Row → Option Command
 command_named name rows =
-    if bytes_eq name (codes "run") then Some (Run (has_flag (codes "trace") rows))
+    if bytes_eq name (codes "run") then run_found rows
     else (if bytes_eq name (codes "check") then Some Check
     else option_map Demo (given_number (codes "number") rows))
 

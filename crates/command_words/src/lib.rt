@@ -7,5 +7,5 @@ mod line;
 mod reading;
 mod spelling;
 
-pub use command::Command;
+pub use command::{Command, Count};
 pub use reading::read_command;

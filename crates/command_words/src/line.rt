@@ -7,7 +7,7 @@ ghost use Rattle.command_words.specs.ClapLine.{run_shape, demo_shape, guards_app
 use clap::{Arg, ArgAction, Command as Line};
 use std::alloc::{AllocError, Global};
 
-/// `run`, with the flag `--trace`.
+/// `run`, with the flag `--trace` and the option `--last`, which has a value.
 fn run_line<'a>(alloc: Global) -> Result<Line<'a>, AllocError>
     ensures shape { IfOk result (λ line. shape_of line ≡ run_shape) }
     ensures own { IfOk result (λ line. (out-Command line).has_globals ≡ false) }
@@ -15,7 +15,8 @@ fn run_line<'a>(alloc: Global) -> Result<Line<'a>, AllocError>
     let trace = Arg::new(alloc, "trace")
         .long("trace")
         .action(ArgAction::SetTrue);
-    Line::new(alloc, "run").arg(trace)
+    let last = Arg::new(alloc, "last").long("last").action(ArgAction::Set);
+    Line::new(alloc, "run").arg(trace)?.arg(last)
 }
 
 /// `demo`, with a number.

@@ -2,9 +2,12 @@
 ghost use Rattle.std.specs.Prelude.{◌≡◌, map};
 ghost use Rattle.std.specs.Char.{is_ascii_digit};
 ghost use Rattle.std.specs.List.{list_all};
-ghost use Rattle.command_words.specs.Commands.{command_of, command_of_word, command_of_pair, is_number, number_of};
+ghost use Rattle.command_words.specs.Commands.{command_of, command_of_word, command_of_pair, command_of_three, command_of_four, count_of, is_number, number_of, run_last};
 
-use crate::command::Command;
+use crate::command::{Command, Count};
+
+/// The most digits of a count of cycles.
+const MOST_COUNT_DIGITS: usize = 4;
 
 /// The most digits of a number.
 const MOST_DIGITS: usize = 20;
@@ -33,12 +36,43 @@ pub(crate) fn number_of(text: &str) -> Option<u64>
     }
 }
 
+/// The number that a text of one to four digits writes, where it is 1 to 2,000.
+#[tactic(auto, unfolding(crate::specs::Commands::count_of))]
+fn count_of(text: &str) -> Option<Count>
+    ensures { result ≡ count_of text.now }
+{
+    if text.len() > MOST_COUNT_DIGITS {
+        return None;
+    }
+    match number_of(text) {
+        Some(number) => Count::of(number),
+        None => None,
+    }
+}
+
+/// The command that tells the last cycles of a run, where the text is such a number.
+#[tactic(auto, unfolding(crate::specs::Commands::run_last))]
+pub(crate) fn run_last(trace: bool, count: &str) -> Option<Command>
+    ensures { result ≡ run_last trace count.now }
+{
+    match count_of(count) {
+        Some(count) => Some(Command::Run {
+            trace,
+            last: Some(count),
+        }),
+        None => None,
+    }
+}
+
 #[tactic(auto, unfolding(crate::specs::Commands::command_of_word))]
 fn command_of_word(word: &str) -> Option<Command>
     ensures { result ≡ command_of_word word.now }
 {
     if word == "run" {
-        Some(Command::Run { trace: false })
+        Some(Command::Run {
+            trace: false,
+            last: None,
+        })
     } else if word == "check" {
         Some(Command::Check)
     } else {
@@ -52,12 +86,42 @@ fn command_of_pair(word: &str, value: &str) -> Option<Command>
 {
     if word == "run" {
         if value == "--trace" {
-            return Some(Command::Run { trace: true });
+            return Some(Command::Run {
+                trace: true,
+                last: None,
+            });
         }
         return None;
     }
     if word == "demo" {
         return number_of(value).map(Command::Demo);
+    }
+    None
+}
+
+#[tactic(auto, unfolding(crate::specs::Commands::command_of_three))]
+fn command_of_three(word: &str, flag: &str, count: &str) -> Option<Command>
+    ensures { result ≡ command_of_three word.now flag.now count.now }
+{
+    if word == "run" && flag == "--last" {
+        run_last(false, count)
+    } else {
+        None
+    }
+}
+
+#[tactic(auto, unfolding(crate::specs::Commands::command_of_four))]
+fn command_of_four(word: &str, first: &str, second: &str, third: &str) -> Option<Command>
+    ensures { result ≡ command_of_four word.now first.now second.now third.now }
+{
+    if word != "run" {
+        return None;
+    }
+    if first == "--trace" && second == "--last" {
+        return run_last(true, third);
+    }
+    if first == "--last" && third == "--trace" {
+        return run_last(true, second);
     }
     None
 }
@@ -70,6 +134,8 @@ pub(crate) fn spelled(words: &[&str]) -> Option<Command>
         [] => None,
         [word] => command_of_word(word),
         [word, value] => command_of_pair(word, value),
-        [_, _, _, ..] => None,
+        [word, flag, count] => command_of_three(word, flag, count),
+        [word, first, second, third] => command_of_four(word, first, second, third),
+        [_, _, _, _, _, ..] => None,
     }
 }

@@ -1,7 +1,7 @@
 -- A cycle whose slots are all done is finished; one that stopped, or broke off, is not.
 use Rattle.std.proofs.Common.{◌≡◌, ℕ, zero, suc, ◌+◌, ◌≤◌, ◌<◌, Bool, true, false, ◌||◌, ◌∷◌, ◌++◌, length, map, Option, None, Some, refl, sym, ap, subst, ◌∙◌, arith}
 use Rattle.std.specs.Prelude.{Ok, Err, IsTrue, option_map, option_and_then, slice_get}
-use Rattle.std.specs.List.{AllZip, range_with_len}
+use Rattle.std.specs.List.{AllZip, AllByRecursion, range_with_len}
 use Rattle.guards_model.specs.declared.Slot.TheVariants.{Tasks, Switch}
 use Rattle.guards_model.specs.Slots.{slot_index}
 use Rattle.guards_model.specs.Channels.{Channel, ChannelSet, has, without}
@@ -37,7 +37,7 @@ use Rattle.guards_world.specs.NodeFacts.{node_with, state_in, state_of_mode, run
 use Rattle.guards_world.specs.SlotSteps.{ended}
 use Rattle.guards_world.specs.InCycle.{InCycle}
 use Rattle.guards_world.specs.Worlds.{WorldValue, StandsForWorld, disturbed, no_memory}
-use Rattle.guards_world.specs.WorldCycle.{AreFull, HasTrail, Ends, context_of, worked_of, node_of}
+use Rattle.guards_world.specs.WorldCycle.{AreFull, HasTrail, IsPadded, Ends, context_of, worked_of, node_of}
 use Rattle.node_laws.proofs.Opening.{active_in}
 use Rattle.world_laws.specs.Passing.{world_after, StopsIn, IsFront}
 use Rattle.world_laws.proofs.Standing.{world_goes_on, is_run}
@@ -159,8 +159,8 @@ same_world old w mission done = ap (λ (M : MissionValue). record w { mission = 
 pub finishes : (old w new : WorldValue) (L now : Log) (steps : Steps) (part : RecordValue) → w.mission ≡ old.mission → w.done ≡ old.done →
     InCycle w.mission L now steps Switch 9 9 w → AreFull w.mission (cycles_before w.mission (L ++ now) w.done) (cycle_at w.mission (L ++ now) w.done) steps →
     shown w.mission.rules.channels w.mission.width (length w.mission.outputs) part ≡ cycle_record w.mission steps w.done (cycle_at w.mission (L ++ now) w.done) →
-    new ≡ world_after w.mission L now steps w.done w.carried → Ends old L now (Ok part) new
-finishes old w new L now steps part mission done inside full record_is new_is =
+    AllByRecursion (IsPadded w.mission) part.lines → new ≡ world_after w.mission L now steps w.done w.carried → Ends old L now (Ok part) new
+finishes old w new L now steps part mission done inside full record_is padded new_is =
     let M = old.mission in
     let same = same_world old w mission done in
     let x = as_old old w in
@@ -174,6 +174,7 @@ finishes old w new L now steps part mission done inside full record_is new_is =
         steps = steps;
         due = made M L now steps x within;
         full = subst (λ (v : WorldValue). AreFull v.mission (cycles_before v.mission (L ++ now) v.done) (cycle_at v.mission (L ++ now) v.done) steps) same full;
+        padded = subst (λ (v : WorldValue). AllByRecursion (IsPadded v.mission) part.lines) same padded;
         record_is = subst (λ (v : WorldValue). shown v.mission.rules.channels v.mission.width (length v.mission.outputs) part ≡ cycle_record v.mission steps v.done (cycle_at v.mission (L ++ now) v.done)) same record_is;
         mission = sym (ap (λ (v : WorldValue). v.mission) ends);
         done = sym (ap (λ (v : WorldValue). v.done) ends);

@@ -1,5 +1,6 @@
 //! How a cycle of the world ends: it finishes, the run stops in it, or memory runs out.
 ghost use Rattle.std.specs.Prelude.{◌≡◌, ◌<◌, ℕ, ◌++◌, length, Some, Ok, Err};
+ghost use Rattle.std.specs.List.{AllByRecursion};
 ghost use Rattle.guards_model.specs.declared.Slot.TheVariants.{Tasks, Switch};
 ghost use Rattle.guards_model.specs.Slots.{slot_index};
 ghost use Rattle.guards_model.specs.Network.{Log};
@@ -11,7 +12,7 @@ ghost use Rattle.guards_runs.specs.Disturbed.{stop_in};
 ghost use Rattle.guards_runs.specs.Report.{cycle_record};
 ghost use Rattle.guards_world.specs.Worlds.{WorldValue, disturbed, no_memory};
 ghost use Rattle.guards_world.specs.InCycle.{InCycle};
-ghost use Rattle.guards_world.specs.WorldCycle.{AreFull, Ends};
+ghost use Rattle.guards_world.specs.WorldCycle.{AreFull, IsPadded, Ends};
 ghost use Rattle.world_laws.specs.Passing.{world_after, StopsIn, IsFront};
 
 /// Where all slots of a cycle are done and the steps of all who worked are full, the world after it has finished the cycle:
@@ -24,6 +25,7 @@ pub fn cycles_finish()
         AreFull w.mission (cycles_before w.mission (L ++ now) w.done) (cycle_at w.mission (L ++ now) w.done) steps →
         shown w.mission.rules.channels w.mission.width (length w.mission.outputs) part
         ≡ cycle_record w.mission steps w.done (cycle_at w.mission (L ++ now) w.done) →
+        AllByRecursion (IsPadded w.mission) part.lines →
         new ≡ world_after w.mission L now steps w.done w.carried →
         Ends old L now (Ok part) new }
 {}

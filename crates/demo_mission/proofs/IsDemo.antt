@@ -172,6 +172,7 @@ demo_is_mission n =
       outputs = first_is (first_block n) (first_below n);
       sensors = and_true _ _ (eight n) (sensors_are 8 n);
       script = and_true _ _ (thirty (number_after 144 n)) (faults_are n 10 0 (number_after 144 n) (omega arith));
+      actuator = refl;
     }
 
 -- ---- the rules for the bus

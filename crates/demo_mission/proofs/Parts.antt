@@ -119,17 +119,18 @@ module _ (n : ℕ) (initial : ContextValue) (table : TableValue) (outputs : List
       × (rows_of sensors ≡ map (map (padded 4)) (sensor_rows 8 n))
       × (script ≡ demo_script 10 0 (number_after 144 n))
 
-  pub parts_make : AreDemo → mission_with demo_rules 400 2 3 initial table outputs sensors script ≡ demo_mission n
+  pub parts_make : AreDemo → mission_with demo_rules 400 2 3 initial table outputs sensors script None ≡ demo_mission n
   unfolding demo_mission
   parts_make parts = rw (parts.0, parts.1, parts.2, parts.4, sensors_used n sensors parts.3) refl
 
-  pub parts_fit : AreDemo → AreParts (mission_with demo_rules 400 2 3 initial table outputs sensors script) table sensors
+  pub parts_fit : AreDemo → AreParts (mission_with demo_rules 400 2 3 initial table outputs sensors script None) table sensors None
   parts_fit parts =
       record {
         mission = rw (parts_make parts) (demo_is_mission n);
         blocks = ap (λ t. t.blocks) parts.1;
         inputs = ap (λ t. t.width) parts.1;
         zeros = parts.3 ∙ ap (map (map (padded 4))) (sym (sensors_used n sensors parts.3));
+        forward = tt;
       }
 
   pub are_demo_of : (n0 n1 n2 block : ℕ) → n0 ≡ n → n1 ≡ number_after 128 n0 → n2 ≡ number_after 16 n1 → initial ≡ zeroed 128

@@ -116,4 +116,5 @@ demo_mission n =
       outputs = (first_block n, 0) ∷ (first_block n, 1) ∷ [];
       sensors = sensor_rows 8 n;
       script = demo_script 10 0 (number_after 144 n);
+      actuator = None;
     }

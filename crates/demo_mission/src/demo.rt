@@ -109,5 +109,6 @@ pub fn demo_mission(alloc: Global, number: u64) -> Result<Mission, AllocError>
         outputs,
         sensors,
         script,
+        actuator: None,
     })
 }

@@ -11,4 +11,3 @@ pub mod Fitting
 pub mod Growth
 pub mod Scan
 pub mod Canonical
-pub mod Appended

@@ -7,6 +7,7 @@ mod list;
 mod record;
 mod refused;
 mod rules;
+mod settled;
 mod text;
 mod word;
 
@@ -16,6 +17,7 @@ pub use list::{Bytes, Numbers, Sequence, Words};
 pub use record::{ChannelLine, CycleRecord, Lines, TraceLine, Traces};
 pub use refused::Refused;
 pub use rules::Rules;
+pub use settled::Settled;
 pub use text::Text;
 pub use word::{Ballot, SourceWord};
 

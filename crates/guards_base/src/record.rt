@@ -1,4 +1,6 @@
 //! The record of a cycle, from which its report is written.
+ghost use Rattle.std.specs.Prelude.{◌<◌, All};
+
 use crate::list::{Bytes, Sequence};
 use crate::{Chan, ChanSet};
 use std::marker::Model;
@@ -26,6 +28,7 @@ impl Model for ChannelLine {
 pub struct TraceLine {
     pub chan: Chan,
     pub steps: Bytes,
+    ghost of_two: { All (λ s. s < 2) steps.items },
 }
 
 impl Model for TraceLine {

@@ -1,5 +1,5 @@
 //! A text, as its bytes.
-ghost use Rattle.std.specs.Prelude.{◌≡◌, ◌++◌, [], length, encode_utf8, string_bytes, IfOk, OnOk, OnErr};
+ghost use Rattle.std.specs.Prelude.{◌≡◌, ◌<◌, ◌++◌, [], length, slice_get, encode_utf8, string_bytes, Some, IfOk, OnOk, OnErr};
 
 use std::alloc::{AllocError, Global};
 use std::marker::Model;
@@ -49,6 +49,21 @@ impl Text {
         ensures { result ≡ length self.now }
     {
         self.text.len()
+    }
+
+    /// Lends a byte.
+    pub fn get(&self, at: usize) -> &u8
+        requires { at < length self.now }
+        ensures { slice_get self.now at ≡ Some result.now }
+    {
+        &self.text.as_bytes()[at]
+    }
+
+    /// Lends all its bytes.
+    pub fn as_slice(&self) -> &[u8]
+        ensures { result.now ≡ self.now }
+    {
+        self.text.as_bytes()
     }
 
     /// Lends the text.

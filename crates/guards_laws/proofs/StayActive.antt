@@ -35,7 +35,7 @@ in_take (suc n) (x ∷ xs) q h = by_first (x == q) (has (take n xs) q) (has xs q
     by_first false taken there f k = f k
 
 -- as many as leave three of them
-three_left : (active : ChannelSet) (test : ℕ → Bool) → is_set active ≡ true → 3 ≤ length active → 3 ≤ length (without active (take (length active - 3) (filter test active)))
+pub three_left : (active : ChannelSet) (test : ℕ → Bool) → is_set active ≡ true → 3 ≤ length active → 3 ≤ length (without active (take (length active - 3) (filter test active)))
 three_left active test set many =
     let gone : ChannelSet = take (length active - 3) (filter test active) in
     let inside : list_all (has active) gone ≡ true =

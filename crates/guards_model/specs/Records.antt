@@ -11,6 +11,11 @@ abbrev pub actor_of_step : ℕ → Actor
 actor_of_step zero = Task
 actor_of_step (suc n) = Sweep
 
+-- the number of an actor's step
+abbrev pub step_number : Actor → ℕ
+step_number Task = 0
+step_number Sweep = 1
+
 -- a transfer that is written as its targets and its start
 abbrev pub transfer_of_pair : Option (ChannelSet × ℕ) → Option TransferValue
 transfer_of_pair None = None

@@ -40,6 +40,7 @@ mission =
           bus (record { cycle = 3; slot = Round1; from = 3; to = None; act = lose }) ∷
           bus (record { cycle = 4; slot = Round1; from = 3; to = None; act = lose }) ∷
           [];
+      actuator = None;
     }
 
 abbrev pub entries_0 : Log

@@ -37,6 +37,7 @@ mission =
       sensors = ((pos 5 ∷ []) ∷ (pos 5 ∷ []) ∷ (pos 5 ∷ []) ∷ (pos 5 ∷ []) ∷ (pos 5 ∷ []) ∷ []) ∷ [];
       script = damage 2 1 0 0 (pos 100) ∷
           [];
+      actuator = None;
     }
 
 abbrev pub entries_0 : Log

@@ -39,6 +39,7 @@ mission =
           crash 2 1 Vote ∷
           restart 2 3 ∷
           [];
+      actuator = None;
     }
 
 abbrev pub entries_0 : Log

@@ -39,6 +39,7 @@ mission =
           restart 4 1 ∷
           crash 4 4 Round1 ∷
           [];
+      actuator = None;
     }
 
 abbrev pub entries_0 : Log

@@ -38,6 +38,7 @@ mission =
       sensors = ((pos 1 ∷ []) ∷ (pos 9 ∷ []) ∷ (pos 9 ∷ []) ∷ (pos 7 ∷ []) ∷ []) ∷ [];
       script = bus (record { cycle = 0; slot = Round1; from = 3; to = Some 2; act = forge (hex (codes "4701020300000000010101010000000000000009000000")) }) ∷
           [];
+      actuator = None;
     }
 
 abbrev pub entries_0 : Log

@@ -38,6 +38,7 @@ mission =
       sensors = ((pos 5 ∷ []) ∷ (pos 5 ∷ []) ∷ (pos 5 ∷ []) ∷ (pos 5 ∷ []) ∷ []) ∷ [];
       script = bus (record { cycle = 0; slot = Round2; from = 1; to = None; act = lose }) ∷
           [];
+      actuator = None;
     }
 
 abbrev pub entries_0 : Log

@@ -40,6 +40,7 @@ mission =
           restart 4 1 ∷
           bus (record { cycle = 3; slot = Request; from = 4; to = None; act = lose }) ∷
           [];
+      actuator = None;
     }
 
 abbrev pub entries_0 : Log

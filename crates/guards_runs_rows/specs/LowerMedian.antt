@@ -35,6 +35,7 @@ mission =
       outputs = (0, 0) ∷ [];
       sensors = ((pos 1 ∷ []) ∷ (pos 9 ∷ []) ∷ (pos 5 ∷ []) ∷ (pos 7 ∷ []) ∷ []) ∷ [];
       script = [];
+      actuator = None;
     }
 
 abbrev pub entries_0 : Log

@@ -39,6 +39,7 @@ mission =
       script = bus (record { cycle = 0; slot = Round1; from = 3; to = Some 1; act = forge (hex (codes "4701020300000000010101010000000000000009000000")) }) ∷
           bus (record { cycle = 0; slot = Round1; from = 3; to = Some 2; act = lose }) ∷
           [];
+      actuator = None;
     }
 
 abbrev pub entries_0 : Log

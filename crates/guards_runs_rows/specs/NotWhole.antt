@@ -40,6 +40,7 @@ mission =
           crash 4 4 Round1 ∷
           restart 4 5 ∷
           [];
+      actuator = None;
     }
 
 abbrev pub entries_0 : Log

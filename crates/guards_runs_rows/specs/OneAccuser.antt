@@ -38,6 +38,7 @@ mission =
       sensors = ((pos 5 ∷ []) ∷ (pos 5 ∷ []) ∷ (pos 5 ∷ []) ∷ (pos 5 ∷ []) ∷ []) ∷ [];
       script = bus (record { cycle = 0; slot = Vote; from = 1; to = Some 0; act = lose }) ∷
           [];
+      actuator = None;
     }
 
 abbrev pub entries_0 : Log

@@ -40,6 +40,7 @@ mission =
           restart 5 1 ∷
           restart 6 1 ∷
           [];
+      actuator = None;
     }
 
 abbrev pub entries_0 : Log

@@ -42,6 +42,7 @@ mission =
           crash 6 3 Round1 ∷
           restart 6 8 ∷
           [];
+      actuator = None;
     }
 
 abbrev pub entries_0 : Log

@@ -38,6 +38,7 @@ mission =
       script = crash 4 0 Request ∷
           restart 4 1 ∷
           [];
+      actuator = None;
     }
 
 abbrev pub entries_0 : Log

@@ -46,6 +46,7 @@ mission =
           bus (record { cycle = 0; slot = Round2; from = 6; to = None; act = lose }) ∷
           bus (record { cycle = 0; slot = Round3; from = 6; to = None; act = lose }) ∷
           [];
+      actuator = None;
     }
 
 abbrev pub entries_0 : Log

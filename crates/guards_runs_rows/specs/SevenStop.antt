@@ -47,6 +47,7 @@ mission =
           bus (record { cycle = 0; slot = Round3; from = 6; to = None; act = lose }) ∷
           bus (record { cycle = 0; slot = Vote; from = 4; to = Some 0; act = lose }) ∷
           [];
+      actuator = None;
     }
 
 abbrev pub entries_0 : Log

@@ -41,6 +41,7 @@ mission =
           bus (record { cycle = 4; slot = Sweep; from = 0; to = None; act = lose }) ∷
           bus (record { cycle = 5; slot = Final; from = 0; to = None; act = forge (hex (codes "00")) }) ∷
           [];
+      actuator = None;
     }
 
 abbrev pub entries_0 : Log

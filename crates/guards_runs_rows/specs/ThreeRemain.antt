@@ -39,6 +39,7 @@ mission =
       script = bus (record { cycle = 0; slot = Vote; from = 1; to = None; act = lose }) ∷
           bus (record { cycle = 1; slot = Round1; from = 0; to = None; act = lose }) ∷
           [];
+      actuator = None;
     }
 
 abbrev pub entries_0 : Log

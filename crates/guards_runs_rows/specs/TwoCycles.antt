@@ -35,6 +35,7 @@ mission =
       outputs = (0, 0) ∷ [];
       sensors = ((pos 5 ∷ []) ∷ (pos 5 ∷ []) ∷ (pos 5 ∷ []) ∷ (pos 5 ∷ []) ∷ []) ∷ [];
       script = [];
+      actuator = None;
     }
 
 abbrev pub entries_0 : Log

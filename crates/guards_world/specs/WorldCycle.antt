@@ -1,6 +1,6 @@
 -- What one cycle of the world does: the entries that it carries, the record that it answers, and the world after it.
 -- This project's own.
-use Rattle.std.specs.Prelude.{◌≡◌, ◌<◌, ℕ, suc, ◌+◌, false, IsTrue, List, ◌∷◌, ◌++◌, length, take, Option, Some, None, Result, Ok, Err, option_and_then, option_map, slice_get}
+use Rattle.std.specs.Prelude.{◌≡◌, ◌<◌, ℕ, suc, ◌+◌, ◌-◌, pos, false, IsTrue, List, ◌∷◌, ◌++◌, length, take, drop, replicate, Option, Some, None, Result, Ok, Err, option_and_then, option_map, slice_get}
 use Rattle.std.specs.List.{AllZip, AllByRecursion}
 use Rattle.guards_model.specs.declared.Slot.TheVariants.{Tasks, Switch}
 use Rattle.guards_model.specs.declared.Actor.{Actor}
@@ -11,7 +11,7 @@ use Rattle.guards_model.specs.Missions.{MissionValue}
 use Rattle.guards_model.specs.BusRules.{RuleValue}
 use Rattle.guards_model.specs.Network.{EntryValue, Log}
 use Rattle.guards_model.specs.Rounds.{IsFull, Steps, steps_of}
-use Rattle.guards_model.specs.Texts.{RecordValue, StopValue}
+use Rattle.guards_model.specs.Texts.{LineValue, RecordValue, StopValue}
 use Rattle.guards_model.specs.Records.{shown}
 use Rattle.guards_runs.specs.Cycles.{Cycle, Past, next_cycle, cycles_before, is_whole}
 use Rattle.guards_runs.specs.Disturbed.{stop_in, stop_of}
@@ -59,6 +59,12 @@ HasTrail w q c steps =
     (worked : WorkedValue) × (option_and_then worked_of (node_of w q) ≡ Some worked) × (worked.cycle ≡ c)
     × (worked.steps ≡ steps)
 
+-- in the places past the mission's words, outputs and channels a line has 0, none and 0
+pub record IsPadded (M : MissionValue) (l : LineValue) : Type 0 where
+  pub inputs : drop M.width l.inputs ≡ replicate (4 - M.width) (pos 0)
+  pub votes : drop (length M.outputs) l.votes ≡ replicate (8 - length M.outputs) None
+  pub counts : drop M.rules.channels l.counts ≡ replicate (7 - M.rules.channels) 0
+
 -- The cycle finished. `e` has its facts, from the log with this cycle's entries.
 pub record Finishes (old : WorldValue) (L now : Log) (part : RecordValue) (new : WorldValue) (e : Cycle) (past : Past) : Type 0 where
   pub earlier : past ≡ cycles_before old.mission (L ++ now) old.done
@@ -67,9 +73,10 @@ pub record Finishes (old : WorldValue) (L now : Log) (part : RecordValue) (new :
   -- the log grew by the due entries, in order
   pub due : AreMadeBy old.mission steps past e now
   pub full : AreFull old.mission past e steps
-  -- the answer is the record of the cycle, in the places that the mission has
+  -- the answer is the record of the cycle, in the places that the mission has; the others are empty
   pub record_is : shown old.mission.rules.channels old.mission.width (length old.mission.outputs) part
       ≡ cycle_record old.mission steps old.done e
+  pub padded : AllByRecursion (IsPadded old.mission) part.lines
   -- the longer list stands for the new world
   pub mission : new.mission ≡ old.mission
   pub done : new.done ≡ suc old.done

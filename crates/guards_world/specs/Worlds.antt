@@ -1,12 +1,13 @@
 -- What contracts see of the world, and which log stands for it. This project's own.
-use Rattle.std.specs.Prelude.{◌≡◌, ◌≤◌, ℕ, ◌-◌, List, [], length, map, drop, Option, None}
+use Rattle.std.specs.Prelude.{◌≡◌, ◌≤◌, ℕ, ◌-◌, List, [], length, map, drop, ◌∷◌, Option, Some, None}
 use Rattle.guards_model.specs.Channels.{ChannelSet}
 use Rattle.guards_model.specs.Missions.{MissionValue, IsMission, channels_of}
-use Rattle.guards_model.specs.Network.{Log}
+use Rattle.guards_model.specs.Network.{Log, without_outputs}
 use Rattle.guards_model.specs.Ledgers.{LedgerValue}
+use Rattle.guards_model.specs.Settled.{SettledValue}
 use Rattle.guards_model.specs.Texts.{StopValue}
-use Rattle.guards_runs.specs.Cycles.{Past, active_set, cycles_before}
-use Rattle.guards_runs.specs.Disturbed.{stop_of}
+use Rattle.guards_runs.specs.Cycles.{Past, this_cycle, active_set, cycles_before}
+use Rattle.guards_runs.specs.Disturbed.{settled_of, stop_of}
 use Rattle.guards_runs.specs.Due.{AreDue}
 use Rattle.guards_nodes.specs.NodeStates.{NodeValue, without_progress}
 use Rattle.guards_nodes.specs.NodeCalls.{first_node}
@@ -16,6 +17,12 @@ use Rattle.guards_world.specs.NodeFacts.{ledger_at, node_at}
 pub data HaltValue : Type 0 where
   disturbed : StopValue → HaltValue
   no_memory : HaltValue
+
+-- what is known of the last finished cycle, if there is one
+abbrev pub settled_after : Past → Option SettledValue
+settled_after [] = None
+settled_after (e ∷ past) =
+    Some (settled_of (this_cycle past) e)
 
 -- `done` is how many cycles are finished, and `carried` how many entries were carried since the start. A spent world
 -- keeps its halt.
@@ -27,10 +34,11 @@ pub record WorldValue : Type 0 where
   pub ledger : LedgerValue
   pub switches : ChannelSet
   pub spent : Option HaltValue
+  pub settled : Option SettledValue
 
--- the last n entries
+-- the last n entries of the nine slots
 abbrev pub last_entries : ℕ → Log → Log
-last_entries n log = drop (length log - n) log
+last_entries n log = drop (length (without_outputs log) - n) (without_outputs log)
 
 -- the cycles that a world has finished, by the entries that it carried
 abbrev pub past_of : WorldValue → Log → Past
@@ -47,6 +55,7 @@ pub record StandsForWorld (w : WorldValue) (L : Log) : Type 0 where
   pub nodes : map without_progress w.nodes ≡ map (node_at w.mission (past_of w L)) (channels_of w.mission)
   pub ledger : w.ledger ≡ ledger_at w.mission (past_of w L)
   pub switches : w.switches ≡ active_set w.mission (past_of w L)
+  pub settled : w.settled ≡ settled_after (past_of w L)
 
 -- the world of a mission before its first cycle
 abbrev pub first_world : MissionValue → WorldValue
@@ -59,4 +68,5 @@ first_world M =
       ledger = ledger_at M [];
       switches = channels_of M;
       spent = None;
+      settled = None;
     }

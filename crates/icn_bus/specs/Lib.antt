@@ -1,4 +1,5 @@
 pub mod Acts
+pub mod Deliveries
 pub mod Carrying
 pub mod Buses
 pub mod Indexes

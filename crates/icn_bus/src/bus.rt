@@ -3,6 +3,7 @@ ghost use Rattle.std.specs.Prelude.{◌≡◌, ◌++◌, [], ◌∷◌, ⊤, IfO
 ghost use Rattle.guards_model.specs.Network.{EntryValue};
 ghost use Rattle.guards_model.specs.ScriptedBus.{delivered_piece};
 ghost use Rattle.icn_bus.specs.Acts.{act_value};
+ghost use Rattle.icn_bus.specs.Deliveries.{delivery_value};
 
 use guards_base::{Bytes, Chan, Sequence};
 use guards_model::Slot;
@@ -29,6 +30,15 @@ impl Model for Entry {
     ghost Value = { EntryValue };
 
     ghost view = { λ e. record { cycle = e.cycle; slot = e.slot; from = e.from; to = e.to; sent = e.sent.items; delivered = option_map (λ piece. piece.items) e.delivered } };
+}
+
+/// What was delivered of a piece, beside what was sent: its bytes only where they may be others.
+#[derive(Debug, Drop)]
+pub enum Delivery {
+    AsSent,
+    Lost,
+    /// These bytes, the ones that were sent or others.
+    Other(Bytes),
 }
 
 /// What happens to a piece on its way.
@@ -94,6 +104,26 @@ pub trait Bus {
             cycle slot from to sent.now (option_map (λ piece. piece.items) answer)) }
         ensures refused { OnErr result (log self.new ≡ log self.old) }
         ensures script { script self.new ≡ script self.old };
+
+    /// Carries a piece likewise. A bus that knows that it was delivered as sent may answer so without its bytes.
+    fn pass(
+        &mut self,
+        cycle: u32,
+        slot: Slot,
+        from: Chan,
+        to: u8,
+        sent: &[u8],
+    ) -> Result<Delivery, AllocError>
+        ensures carried { IfOk result (λ answer. Adds may (script self.old) (log self.old) (log self.new)
+            cycle slot from to sent.now (delivery_value sent.now answer)) }
+        ensures refused { OnErr result (log self.new ≡ log self.old) }
+        ensures script { script self.new ≡ script self.old }
+    {
+        match self.carry(cycle, slot, from, to, sent)? {
+            None => Ok(Delivery::Lost),
+            Some(piece) => Ok(Delivery::Other(piece)),
+        }
+    }
 }
 
 /// A copy of a piece.

@@ -7,7 +7,7 @@ mod memory;
 mod script;
 mod switchboard;
 
-pub use bus::{Act, Bus, Entry, Rule};
+pub use bus::{Act, Bus, Delivery, Entry, Rule};
 pub use memory::{Acts, MemBus};
 pub use script::ScriptBus;
 pub use switchboard::Switchboard;

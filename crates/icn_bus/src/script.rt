@@ -1,8 +1,9 @@
 //! The bus that delivers what was sent, except where a rule fits.
 ghost use Rattle.std.specs.Prelude.{◌≡◌, [], IfOk, OnOk, OnErr, option_map};
 ghost use Rattle.guards_model.specs.ScriptedBus.{delivered_by};
+ghost use Rattle.icn_bus.specs.Deliveries.{delivery_value};
 
-use crate::bus::{Bus, Entry, Rule, append, delivered};
+use crate::bus::{Act, Bus, Delivery, Entry, Rule, append, delivered};
 use crate::index::IndexedRules;
 use guards_base::{Bytes, Chan, Sequence};
 use guards_model::Slot;
@@ -64,6 +65,32 @@ fn delivered_of(
     }
 }
 
+/// What the first rule that fits delivers of a piece, for the log and for the one who carries it.
+fn passed_of(
+    alloc: Global,
+    rules: &IndexedRules,
+    cycle: u32,
+    slot: Slot,
+    from: Chan,
+    to: u8,
+    sent: &[u8],
+) -> Result<(Option<Bytes>, Delivery), AllocError>
+    ensures log { IfOk result (λ r. option_map (λ bytes. bytes.items) r.0 ≡ delivered_by rules.now cycle slot from to sent.now) }
+    ensures answer { IfOk result (λ r. delivery_value sent.now r.1 ≡ delivered_by rules.now cycle slot from to sent.now) }
+{
+    match rules.first_fitting(cycle, slot, from, to) {
+        None => Ok((Some(Bytes::from_slice(alloc, sent)?), Delivery::AsSent)),
+        Some(rule) => match &rule.act {
+            Act::Lose => Ok((None, Delivery::Lost)),
+            Act::Forge(bytes) => {
+                let piece = Bytes::from_slice(alloc, bytes.as_slice())?;
+                let answer = Bytes::from_slice(alloc, bytes.as_slice())?;
+                Ok((Some(piece), Delivery::Other(answer)))
+            }
+        },
+    }
+}
+
 impl Bus for ScriptBus {
     ghost use Rattle.guards_model.specs.ScriptedBus.{IsScripted};
 
@@ -97,5 +124,26 @@ impl Bus for ScriptBus {
             delivered,
         };
         append(self.alloc, &mut self.log, entry)
+    }
+
+    fn pass(
+        &mut self,
+        cycle: u32,
+        slot: Slot,
+        from: Chan,
+        to: u8,
+        sent: &[u8],
+    ) -> Result<Delivery, AllocError> {
+        let (delivered, answer) = passed_of(self.alloc, &self.rules, cycle, slot, from, to, sent)?;
+        let copy = Bytes::from_slice(self.alloc, sent)?;
+        self.log.push(Entry {
+            cycle,
+            slot,
+            from,
+            to,
+            sent: copy,
+            delivered,
+        })?;
+        Ok(answer)
     }
 }

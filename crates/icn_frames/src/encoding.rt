@@ -220,12 +220,16 @@ fn put_body(out: &mut Bytes, version: u8, body: &Body) -> Result<(), AllocError>
     }
 }
 
+/// Room that the most frames do with, so that their spelling is not moved while it grows.
+const ROOM: usize = 768;
+
 /// The frame's one spelling.
 pub fn encode(alloc: Global, frame: &Frame) -> Result<Bytes, AllocError>
     requires { IsTrue (in_range frame.now) }
     ensures { IfOk result (λ bytes. bytes.items ≡ spelling frame.now) }
 {
     let mut out = Bytes::new(alloc);
+    out.reserve(ROOM)?;
     out.append(&[
         0x47,
         frame.version,

@@ -15,6 +15,3 @@ pub use frame::{
     BlockCopy, Body, ControlWord, Copies, Exchange, FinalBody, Finals, Frame, Item, Items, Labels,
     SweepBody, Sweeps,
 };
-
-#[cfg(test)]
-mod tests;

@@ -1,12 +1,13 @@
 -- The end of a cycle: the switchboard, the nodes and the ledger after it.
 use Rattle.std.proofs.Common.{◌≡◌, ℕ, zero, suc, ◌+◌, ◌<◌, Bool, true, false, List, ◌∷◌, ◌++◌, Option, None, Some, All, map, length, refl, sym, ap, subst, ◌∙◌, add-one}
 use Rattle.std.specs.Prelude.{is_some, option_map}
+use Rattle.std.specs.List.{list_any}
 use Rattle.guards_model.specs.declared.Slot.TheVariants.{Switch}
 use Rattle.guards_model.specs.Channels.{Channel, ChannelSet, has, by_channel}
 use Rattle.guards_model.specs.Missions.{MissionValue}
 use Rattle.guards_model.specs.Frames.{FinalValue}
 use Rattle.guards_model.specs.Modes.{is_joining}
-use Rattle.guards_model.specs.Ledgers.{LedgerValue, ledger_at_end}
+use Rattle.guards_model.specs.Ledgers.{LedgerValue, ledger_at_end, disturbed_by}
 use Rattle.guards_model.specs.Network.{Log, switchboard}
 use Rattle.guards_model.specs.Replicas.{with_copies}
 use Rattle.guards_model.specs.Rounds.{Steps}
@@ -20,10 +21,14 @@ use Rattle.guards_laws.proofs.RunRestores.{run_restores, run_only_whole}
 use Rattle.guards_laws.proofs.SwitchesFollow.{run_switches}
 use Rattle.guards_nodes.specs.NodeStates.{NodeValue}
 use Rattle.guards_world.specs.NodeFacts.{ledger_at, running_in, joiner_swept, joiner_in, state_in}
-use Rattle.guards_world.specs.Worlds.{WorldValue, HaltValue}
+use Rattle.guards_model.specs.Settled.{SettledValue}
+use Rattle.guards_world.specs.Worlds.{WorldValue, HaltValue, settled_after}
 use Rattle.guards_world.specs.InCycle.{InCycle, node_in}
 use Rattle.world_laws.specs.Passing.{world_after}
-use Rattle.world_laws.proofs.LedgerFollows.{ends}
+use Rattle.guards_laws.proofs.CycleParts.{active-is}
+use Rattle.guards_runs.specs.Disturbed.{is_charge, disturbed_channels}
+use Rattle.world_laws.proofs.LedgerFollows.{ends, disturbed_are}
+use Rattle.world_laws.proofs.Passing.{all_carried}
 use Rattle.world_laws.proofs.Standing.{goes_on}
 use Rattle.world_nodes.specs.NodeLists.{TookContent, ended_on}
 use Rattle.world_steps.specs.Arrivals.{nodes_in}
@@ -31,6 +36,7 @@ use Rattle.world_steps.proofs.SlotNodes.{all_ended}
 use Rattle.icn_world.proofs.Handing.{all_nodes}
 use Rattle.icn_world.proofs.Taking.{took_by, kept_content}
 use Rattle.fault_script.specs.declared.disturbance.Disturbance.{Disturbance}
+use Rattle.icn_world.specs.Stages.{Inside}
 use Rattle.icn_world.specs.Restored.{sets_at, IsRestored}
 use Rattle.icn_world.specs.declared.restoring.Restored.{Restored}
 
@@ -112,41 +118,63 @@ module _ (M : MissionValue) (L now : Log) (steps : Steps) (w : WorldValue) (insi
       ap (ledger_at_end on taken) inside.ledger
       ∙ ends M (L ++ now) past on taken (λ q low. ap (λ (s : ChannelSet). has s q) is) whole
 
+-- what is known of the cycle
+settled_is : (w : WorldValue) (L now : Log) (steps : Steps) (d : Disturbance) → Inside Switch 9 9 L now steps w d →
+    ◌≡◌ {A = Option SettledValue} (Some (record { cycle = w.done; active = w.switches; disturbed = disturbed_by d.active d.charged w.ledger }))
+    (settled_after (cycle_at w.mission (L ++ now) w.done ∷ cycles_before w.mission (L ++ now) w.done))
+settled_is w L now steps d stands =
+    let M = w.mission in
+    let inside = stands.inside in
+    let n = w.done in
+    let e : Cycle = cycle_at M (L ++ now) n in
+    let S : ℕ → ChannelSet → ChannelSet → Option SettledValue = λ c a s. Some (record { cycle = c; active = a; disturbed = s }) in
+    let size : length (cycles_before M (L ++ now) n) ≡ n = length-cycles_before M (L ++ now) n in
+    let charged : (q : Channel) → q < 7 → has d.charged q ≡ list_any (is_charge n Switch q) e.entries =
+    λ q low. stands.charged q low ∙ ap (list_any (is_charge n Switch q)) (sym (all_carried M L now steps Switch 9 w inside)) in
+    ap (λ a. S n a (disturbed_by d.active d.charged w.ledger)) (inside.switches ∙ sym (active-is M (L ++ now) (cycles_before M (L ++ now) n)))
+    ∙ ap (λ (a : ChannelSet). S n e.active (disturbed_by a d.charged w.ledger)) stands.active
+    ∙ ap (λ (l : LedgerValue). S n e.active (disturbed_by e.active d.charged l)) inside.ledger
+    ∙ ap (S n e.active) (disturbed_are M (L ++ now) n inside.ranges Switch d.charged charged)
+    ∙ ap (λ c. S c e.active (disturbed_channels c e Switch)) (sym size)
+
 -- the world after the cycle
-pub ended_world : (w : WorldValue) (L now : Log) (steps : Steps) (sent : List (Option ChannelSet)) (taken on : ChannelSet) (nodes : List NodeValue) (ledger : LedgerValue) →
+pub ended_world : (w : WorldValue) (L now : Log) (steps : Steps) (sent : List (Option ChannelSet)) (taken on : ChannelSet) (nodes : List NodeValue) (ledger : LedgerValue) (settled : Option SettledValue) →
     (inside : InCycle w.mission L now steps Switch 9 9 w) → AreWhole w.mission L now steps w inside taken → sent ≡ sets_at w.mission (L ++ now) w.done →
-    on ≡ switched_on w.switches sent → nodes ≡ map (ended_on on) w.nodes → ledger ≡ ledger_at_end on taken w.ledger →
-    record w { done = w.done + 1; nodes = nodes; ledger = ledger; switches = on } ≡ world_after w.mission L now steps w.done w.carried
-ended_world w L now steps sent taken on nodes ledger inside whole sets o k l =
+    on ≡ switched_on w.switches sent → nodes ≡ map (ended_on on) w.nodes → ledger ≡ ledger_at_end on taken w.ledger → settled ≡ settled_after (cycle_at w.mission (L ++ now) w.done ∷ cycles_before w.mission (L ++ now) w.done) →
+    record w { done = w.done + 1; nodes = nodes; ledger = ledger; switches = on; settled = settled } ≡ world_after w.mission L now steps w.done w.carried
+ended_world w L now steps sent taken on nodes ledger settled inside whole sets o k l last =
     let M = w.mission in
     let past : Past = cycles_before M (L ++ now) w.done in
     let e : Cycle = cycle_at M (L ++ now) w.done in
     let is : on ≡ active_set M (e ∷ past) = switches_are M L now steps w inside sent on sets o in
     let W : ℕ → List NodeValue → LedgerValue → ChannelSet → Option HaltValue → WorldValue =
-    λ d ns x s halt. record { mission = M; done = d; carried = w.carried; nodes = ns; ledger = x; switches = s; spent = halt } in
+    λ d ns x s halt. record { mission = M; done = d; carried = w.carried; nodes = ns; ledger = x; switches = s; spent = halt; settled = settled } in
     let after : WorldValue = world_after M L now steps w.done w.carried in
     ap (λ (d : ℕ). W d nodes ledger on w.spent) (add-one w.done)
     ∙ ap (λ (ns : List NodeValue). W (suc w.done) ns ledger on w.spent) (k ∙ ended_nodes M L now steps w inside on is)
     ∙ ap (λ (x : LedgerValue). W (suc w.done) after.nodes x on w.spent) (l ∙ ended_ledger M L now steps w inside on taken is whole)
     ∙ ap (λ (s : ChannelSet). W (suc w.done) after.nodes after.ledger s w.spent) is
     ∙ ap (W (suc w.done) after.nodes after.ledger after.switches) inside.unspent
+    ∙ ap (λ (s : Option SettledValue). record after { settled = s }) last
 
 -- ---- the same of a world that was restored
 
 inside_of : (old w : WorldValue) (r : Restored) (L now : Log) (steps : Steps) (d : Disturbance) → w ≡ old → IsRestored r L now steps old d → InCycle w.mission L now steps Switch 9 9 w
 inside_of old w r L now steps d same held = subst (λ (x : WorldValue). InCycle x.mission L now steps Switch 9 9 x) (sym same) held.stands.inside
 
-pub may_end_by : (old w : WorldValue) (r : Restored) → w ≡ old → (L : Log) × (now : Log) × (steps : Steps) × (d : Disturbance) × IsRestored r L now steps old d →
+pub may_end_by : (old w : WorldValue) (r : Restored) → w ≡ old → (d : Disturbance) → (L : Log) × (now : Log) × (steps : Steps) × IsRestored r L now steps old d →
     All (TookContent r.taken) w.nodes
-may_end_by old w r same held =
-    let restored : IsRestored r held.0 held.1 held.2 w held.3 = subst (λ (x : WorldValue). IsRestored r held.0 held.1 held.2 x held.3) (sym same) held.4 in
+may_end_by old w r same d held =
+    let restored : IsRestored r held.0 held.1 held.2 w d = subst (λ (x : WorldValue). IsRestored r held.0 held.1 held.2 x d) (sym same) held.3 in
     all_took w.mission held.0 held.1 held.2 w restored.stands.inside r.taken restored.taken_are
 
-pub ends_by : (old w : WorldValue) (r : Restored) (L now : Log) (steps : Steps) (d : Disturbance) (on board : ChannelSet) (nodes : List NodeValue) (ledger : LedgerValue) →
-    w ≡ old → IsRestored r L now steps old d → board ≡ switched_on w.switches r.sent → on ≡ board → nodes ≡ map (ended_on on) w.nodes → ledger ≡ ledger_at_end on r.taken w.ledger →
-    record w { done = w.done + 1; nodes = nodes; ledger = ledger; switches = board } ≡ world_after old.mission L now steps old.done old.carried
-ends_by old w r L now steps d on board nodes ledger same held o is k l =
+pub ends_by : (old w : WorldValue) (r : Restored) (L now : Log) (steps : Steps) (d : Disturbance) (on board : ChannelSet) (nodes : List NodeValue) (ledger : LedgerValue) (set was : ChannelSet) →
+    w ≡ old → IsRestored r L now steps old d → board ≡ switched_on w.switches r.sent → on ≡ board → nodes ≡ map (ended_on on) w.nodes → ledger ≡ ledger_at_end on r.taken w.ledger → set ≡ disturbed_by d.active d.charged w.ledger → was ≡ w.switches →
+    record w { done = w.done + 1; nodes = nodes; ledger = ledger; switches = board; settled = Some (record { cycle = w.done; active = was; disturbed = set }) } ≡ world_after old.mission L now steps old.done old.carried
+ends_by old w r L now steps d on board nodes ledger set was same held o is k l s t =
     let restored : IsRestored r L now steps w d = subst (λ (x : WorldValue). IsRestored r L now steps x d) (sym same) held in
-    ap (λ (s : ChannelSet). record w { done = w.done + 1; nodes = nodes; ledger = ledger; switches = s }) (sym is)
-    ∙ ended_world w L now steps r.sent r.taken on nodes ledger restored.stands.inside restored.taken_are restored.sent_are (is ∙ o) k l
+    let last : Option SettledValue = Some (record { cycle = w.done; active = was; disturbed = set }) in
+    let S : ChannelSet → ChannelSet → Option SettledValue = λ y x. Some (record { cycle = w.done; active = y; disturbed = x }) in
+    ap (λ (s : ChannelSet). record w { done = w.done + 1; nodes = nodes; ledger = ledger; switches = s; settled = last }) (sym is)
+    ∙ ended_world w L now steps r.sent r.taken on nodes ledger last restored.stands.inside restored.taken_are restored.sent_are (is ∙ o) k l (ap (S was) s ∙ ap (λ (y : ChannelSet). S y (disturbed_by d.active d.charged w.ledger)) t ∙ settled_is w L now steps d restored.stands)
     ∙ ap (λ (x : WorldValue). world_after x.mission L now steps x.done x.carried) same

@@ -2,7 +2,8 @@
 use Rattle.std.proofs.Common.{◌≡◌, ℕ, ◌<◌, Bool, true, false, cond, ◌&&◌, nat_lt, List, [], ◌∷◌, ◌++◌, None, All, map, length, filter, refl, sym, ap, subst, ◌∙◌}
 use Rattle.std.proofs.lemmas.Bool.{ltb-true, lt-ltb}
 use Rattle.std.proofs.Math.Bool.{and-false}
-use Rattle.std.proofs.lemmas.List.{append-nil}
+use Rattle.std.proofs.lemmas.List.{append-nil, length-map}
+use Rattle.std.proofs.lemmas.List.FromFn.{length-range_with_len}
 use Rattle.guards_model.specs.declared.Slot.{Slot}
 use Rattle.guards_model.specs.declared.Slot.TheVariants.{Request}
 use Rattle.guards_model.specs.Slots.{up_to, on_bus}
@@ -17,6 +18,7 @@ use Rattle.guards_model.proofs.NumbersBelow.{below_there}
 use Rattle.dirty_tags.proofs.MarkedLists.{below_of}
 use Rattle.guards_runs.specs.Cycles.{Past, Cycle, cycles_before, cycle_at}
 use Rattle.guards_laws.proofs.LogGrows.{length-cycles_before}
+use Rattle.guards_nodes.specs.NodeCalls.{first_node}
 use Rattle.guards_nodes.specs.NodeStates.{NodeValue}
 use Rattle.guards_world.specs.NodeFacts.{ledger_at}
 use Rattle.guards_world.specs.SlotSteps.{begins_to_join}
@@ -53,6 +55,10 @@ modes_are M [] = refl
 modes_are M (q ∷ qs) =
     ap (λ (m : ModeValue). m ∷ map (λ p. cond (nat_lt p M.rules.channels) up down) qs) (mode_is M q)
     ∙ ap (λ (ms : List ModeValue). cond (has (numbers_below M.rules.channels) q) up down ∷ ms) (modes_are M qs)
+
+-- there are as many nodes as channels
+pub first_count : (M : MissionValue) (nodes : List NodeValue) → nodes ≡ map (first_node M) (channels_of M) → length nodes ≡ M.rules.channels
+first_count M nodes are = ap length are ∙ length-map (channels_of M) _ ∙ length-range_with_len 0 M.rules.channels
 
 pub first_ledger_is : (M : MissionValue) → first_ledger M.rules.channels M.return_after ≡ ledger_at M []
 unfolding by_channel channels_where

@@ -2,6 +2,7 @@ pub mod Entering
 pub mod Handing
 pub mod Outside
 pub mod Chaining
+pub mod Padding
 pub mod Telling
 pub mod Fronts
 pub mod Entered

@@ -1,12 +1,13 @@
 -- A cycle, passed part by part.
 use Rattle.std.proofs.Common.{◌≡◌, ℕ, ◌<◌, ◌+◌, List, [], ◌++◌, length, Some, Result, Ok, Err, map, refl, sym, ap, subst, ◌∙◌, arith}
-use Rattle.std.specs.List.{list_any}
+use Rattle.std.specs.List.{list_any, AllByRecursion}
 use Rattle.std.proofs.lemmas.List.{append_assoc, append_cancel_left}
 use Rattle.guards_model.specs.declared.Slot.TheVariants.{Tasks, Vote, Switch}
 use Rattle.guards_model.specs.BusRules.{RuleValue}
 use Rattle.guards_model.specs.Channels.{Channel, ChannelSet, has}
 use Rattle.guards_model.specs.Decisions.{DecisionValue}
-use Rattle.guards_model.specs.Ledgers.{LedgerValue}
+use Rattle.guards_model.specs.Ledgers.{LedgerValue, mode_of}
+use Rattle.guards_model.specs.Modes.{is_up}
 use Rattle.guards_model.specs.Missions.{MissionValue}
 use Rattle.guards_model.specs.Network.{EntryValue, Log}
 use Rattle.guards_model.specs.Rounds.{Steps, steps_of}
@@ -21,7 +22,7 @@ use Rattle.guards_runs.specs.SlotFacts.{AreFromPlace}
 use Rattle.guards_laws.proofs.CycleParts.{active-is}
 use Rattle.guards_world.specs.Worlds.{WorldValue, HaltValue, disturbed, no_memory, last_entries}
 use Rattle.guards_world.specs.InCycle.{InCycle}
-use Rattle.guards_world.specs.WorldCycle.{BusValue, Carries, Ends, MayCycle}
+use Rattle.guards_world.specs.WorldCycle.{BusValue, Carries, Ends, IsPadded, MayCycle}
 use Rattle.world_laws.specs.Passing.{world_after}
 use Rattle.cycle_laws.specs.Fronts.{IsRunFront, IsUpToStop, CarriesUpToStop}
 use Rattle.cycle_laws.specs.Staying.{RoundsStay, VoteStays}
@@ -44,7 +45,7 @@ use Rattle.icn_world.specs.Work.{HasDoneWork}
 use Rattle.icn_world.proofs.Chaining.{carries_on, carries_nothing, counts_on}
 use Rattle.icn_world.proofs.Entered.{of_kept}
 use Rattle.icn_world.proofs.Fronts.{is_front}
-use Rattle.icn_world.proofs.Recording.{lines_at_end, lines_stay, running_stays, record_shown}
+use Rattle.icn_world.proofs.Recording.{all_left, lines_at_end, lines_stay, running_stays, record_shown}
 
 -- ---- a cycle so far
 
@@ -211,8 +212,8 @@ module _ {may : List RuleValue → EntryValue → Type 0} (old : WorldValue) (d 
           unfolding n3
           is_restored L held = r.ends L n2 made (may_restore_at L held)
 
-          pub may_end : (L : Log) × MayPass old L → (L : Log) × (now : Log) × (steps : Steps) × (x : Disturbance) × IsRestored restored L now steps w3 x
-          may_end held = (held.0, n3, made, d3, is_restored held.0 held.1)
+          pub may_end : (L : Log) × MayPass old L → (L : Log) × (now : Log) × (steps : Steps) × IsRestored restored L now steps w3 d3
+          may_end held = (held.0, n3, made, is_restored held.0 held.1)
 
           -- the record tells of the facts
           told : (L : Log) → MayPass old L →
@@ -275,6 +276,11 @@ module _ {may : List RuleValue → EntryValue → Type 0} (old : WorldValue) (d 
               (removed1 ∙ ap (λ (x : DecisionValue). x.removed) (sym same1))
               last.joined_are last.remaining_are
 
+          padded : (L : Log) → MayPass old L → AllByRecursion (IsPadded w3.mission) (of_channels_up w3.ledger lines.items)
+          padded L held =
+              all_left (IsPadded w3.mission) (λ line. is_up (mode_of w3.ledger line.channel)) lines.items
+              (subst (λ (X : MissionValue). AllByRecursion (IsPadded X) lines.items) (sym r.mission) (has_voted L held).lines_are.1)
+
           pub passes : (new : WorldValue) (part : RecordValue) →
               part ≡ record {
                 cycle = w3.done;
@@ -286,18 +292,19 @@ module _ {may : List RuleValue → EntryValue → Type 0} (old : WorldValue) (d 
                 joined = restored.joined;
                 remaining = restored.remaining;
               } →
-              ((L now : Log) (steps : Steps) (x : Disturbance) → IsRestored restored L now steps w3 x → new ≡ world_after w3.mission L now steps w3.done w3.carried) →
+              ((L now : Log) (steps : Steps) → IsRestored restored L now steps w3 d3 → new ≡ world_after w3.mission L now steps w3.done w3.carried) →
               (L : Log) → MayPass old L → Passes may old L bus (Ok part) new b3
           unfolding n3
           passes new part is ended L held =
               let last = is_restored L held in
-              let after = ended L n3 made d3 last in
+              let after = ended L n3 made last in
               let far : SoFar may old bus n3 w3 b3 = goes_on far2 r in
               record {
                 now = n3;
                 carries = far.carries;
                 count = ap (λ (x : WorldValue). x.carried) after ∙ far.count;
                 ends = finishes old w3 new L n3 made part far.mission far.done last.stands.inside (last.stands.full (omega arith))
-                    (ap (shown w3.mission.rules.channels w3.mission.width (length w3.mission.outputs)) is ∙ told L held) after;
+                    (ap (shown w3.mission.rules.channels w3.mission.width (length w3.mission.outputs)) is ∙ told L held)
+                    (subst (λ (x : RecordValue). AllByRecursion (IsPadded w3.mission) x.lines) (sym is) (padded L held)) after;
                 up_to_stop = λ none. absurd cc;
               }

@@ -1,6 +1,6 @@
 -- The record of a cycle, from what its parts left.
 use Rattle.std.proofs.Common.{◌≡◌, ℕ, suc, ◌<◌, ◌&&◌, Bool, true, false, cond, List, [], ◌∷◌, Option, map, filter, length, refl, sym, ap, subst, ◌∙◌}
-use Rattle.std.specs.List.{list_all}
+use Rattle.std.specs.List.{list_all, AllByRecursion}
 use Rattle.std.proofs.lemmas.Bool.{leb-true}
 use Rattle.guards_model.specs.declared.Slot.{Slot}
 use Rattle.guards_model.specs.declared.Slot.TheVariants.{Vote, Tasks, Switch}
@@ -23,6 +23,7 @@ use Rattle.guards_runs.specs.Report.{line_of, running_in, remaining_in, cycle_re
 use Rattle.guards_laws.proofs.CycleParts.{active-is, up_in_slot}
 use Rattle.guards_laws.proofs.WithinChannels.{active_is_set}
 use Rattle.guards_world.specs.InCycle.{ledger_in}
+use Rattle.guards_world.specs.WorldCycle.{IsPadded}
 use Rattle.icn_world.specs.Told.{shown_of, AreLinesOf, of_channels_up}
 
 -- ---- filters
@@ -66,6 +67,14 @@ filter_lines h t same (q ∷ qs) =
     step true k = ap (λ xs. h q ∷ xs) k
     step false k = k
 
+pub all_left : (P : LineValue → Type 0) (t : LineValue → Bool) (ls : List LineValue) → AllByRecursion P ls → AllByRecursion P (filter t ls)
+all_left P t [] h = tt
+all_left P t (l ∷ ls) h = step (t l) (all_left P t ls h.1)
+  where
+    step : (b : Bool) → AllByRecursion P (filter t ls) → AllByRecursion P (cond b (l ∷ filter t ls) (filter t ls))
+    step true k = (h.0, k)
+    step false k = k
+
 -- ---- the lines at the end
 
 both_up : (a b : Bool) → (b ≡ true → a ≡ true) → (a && b) ≡ b
@@ -86,12 +95,14 @@ lines_at_end M L n mission lines are =
     let v : Channel → Bool = λ q. is_up (mode_in e q Switch) in
     let now : (q : Channel) → q < 7 → t q ≡ v q = λ q low. ap is_up (at-by_channel (λ p. mode_in e p Switch) q down low) in
     let low : list_all is_channel e.active ≡ true =
-    subst (λ (s : ChannelSet). list_all is_channel s ≡ true) (sym (active-is M L past)) (set_parts _ (active_is_set M past mission)).0 in
-    filter_shown (shown_of M) t (λ l. refl) lines
-    ∙ ap (filter (λ (l : LineValue). t l.channel)) are
-    ∙ filter_lines (line_of M e) t (λ q. refl) (running_in Vote e)
-    ∙ ap (map (line_of M e))
-    (filters_twice t u v (λ q small. ap (λ b. u q && b) (now q small) ∙ both_up (u q) (v q) (up_in_slot M L past q Vote Switch small refl)) e.active low)
+    subst (λ (s : ChannelSet). list_all is_channel s ≡ true) (sym (active-is M L past)) (set_parts _ (active_is_set M past mission)).0 in (
+      filter_shown (shown_of M) t (λ l. refl) lines
+          ∙ ap (filter (λ (l : LineValue). t l.channel)) are.0
+          ∙ filter_lines (line_of M e) t (λ q. refl) (running_in Vote e)
+          ∙ ap (map (line_of M e))
+          (filters_twice t u v (λ q small. ap (λ b. u q && b) (now q small) ∙ both_up (u q) (v q) (up_in_slot M L past q Vote Switch small refl)) e.active low),
+      all_left (IsPadded M) (λ l. t l.channel) lines are.1,
+    )
 
 -- ---- what stays
 
@@ -110,7 +121,7 @@ map_alike f g same (q ∷ qs) = ap (λ x. x ∷ map f qs) (same q) ∙ ap (λ xs
 pub lines_stay : (M : MissionValue) (e e' : Cycle) (lines : List LineValue) → e'.opening ≡ e.opening → ((q : Channel) → line_of M e' q ≡ line_of M e q) →
     AreLinesOf M e Vote lines → AreLinesOf M e' Vote lines
 lines_stay M e e' lines opening same are =
-    are ∙ sym (map_alike (line_of M e') (line_of M e) same (running_in Vote e)) ∙ ap (map (line_of M e')) (sym (running_stays Vote e e' opening))
+    (are.0 ∙ sym (map_alike (line_of M e') (line_of M e) same (running_in Vote e)) ∙ ap (map (line_of M e')) (sym (running_stays Vote e e' opening)), are.1)
 
 -- ---- the record
 
@@ -131,4 +142,4 @@ pub record_shown : (M : MissionValue) (steps : Steps) (n : ℕ) (e : Cycle) (act
     ≡ cycle_record M steps n e
 record_shown M steps n e active transfer lines traces removed joined remaining a t l tr r j m =
     record_alike n n active e.active transfer e.transfer (map (shown_of M) lines) (map (line_of M e) (running_in Switch e)) traces
-    (map (λ p. record { channel = p; steps = steps_of steps p }) (running_in Tasks e)) removed e.removed joined e.joined remaining (remaining_in e) refl a t l tr r j m
+    (map (λ p. record { channel = p; steps = steps_of steps p }) (running_in Tasks e)) removed e.removed joined e.joined remaining (remaining_in e) refl a t l.0 tr r j m

@@ -41,6 +41,7 @@ use Rattle.node_rounds.specs.Lines.{whole_line}
 use Rattle.world_nodes.specs.NodeLists.{Bodies, ballots_at, line_in, line_with}
 use Rattle.world_steps.specs.Arrivals.{AreArrivals, HaveWorked, nodes_in}
 use Rattle.icn_world.specs.Told.{shown_of, AreLinesOf}
+use Rattle.icn_world.proofs.Padding.{all_padded}
 
 -- ---- sets with the same channels
 
@@ -169,10 +170,12 @@ module _ (M : MissionValue) (L : Log) (n : ℕ) (steps : Steps) (mission : IsMis
 
   pub all_told : (got : Bodies) → AreArrivals M L n Vote got → HaveWorked M L n →
       AreLinesOf M e Vote (filter_map (line_with M got) (nodes_in M L n steps Vote 5))
-  all_told got are worked =
-      told_of (line_with M got) (node_in M L n steps Vote 5) (shown_of M) (λ q. is_up (mode_in e q Vote)) (line_of M e) (told got are worked)
-      (channels_of M) (set_parts (channels_of M) (active_is_set M [] mission)).0
-      ∙ ap (map (line_of M e)) (up_are_running M L n Vote mission)
+  all_told got are worked = (
+    told_of (line_with M got) (node_in M L n steps Vote 5) (shown_of M) (λ q. is_up (mode_in e q Vote)) (line_of M e) (told got are worked)
+        (channels_of M) (set_parts (channels_of M) (active_is_set M [] mission)).0
+        ∙ ap (map (line_of M e)) (up_are_running M L n Vote mission),
+    all_padded M L n steps mission got,
+  )
 
 -- the world's nodes tell these lines
 pub tells_by : (old w : WorldValue) (L now : Log) (steps : Steps) (got : Bodies) (items : List LineValue) → w ≡ old →

@@ -11,6 +11,7 @@ use Rattle.guards_model.specs.Ledgers.{LedgerValue}
 use Rattle.guards_model.specs.Texts.{StopValue}
 use Rattle.mission_type.specs.Codes.{coded_mission}
 use Rattle.guards_nodes.specs.NodeStates.{NodeValue}
+use Rattle.guards_model.specs.Settled.{SettledValue}
 use Rattle.guards_world.specs.Worlds.{HaltValue, disturbed, no_memory, WorldValue}
 
 abbrev pub coded_set : Coded ChannelSet
@@ -34,10 +35,15 @@ halt_of None = no_memory
 abbrev pub coded_halt : Coded HaltValue
 coded_halt = code_by (Option StopValue) (coded_option coded_stop) stop_or_none halt_of (elim [ disturbed s ↦ refl | no_memory ↦ refl ])
 
+abbrev pub coded_settled : Coded SettledValue
+coded_settled =
+    code_by (ℕ × (ChannelSet × ChannelSet)) (coded× coded_ℕ (coded× coded_set coded_set)) (λ s. (s.cycle, (s.active, s.disturbed)))
+    (λ p. record { cycle = p.0; active = p.1.0; disturbed = p.1.1 }) (λ _. refl)
+
 abbrev pub coded_world : Coded WorldValue
 coded_world =
-    code_by (MissionValue × ((ℕ × ℕ) × (List NodeValue × (LedgerValue × (ChannelSet × Option HaltValue)))))
-    (coded× coded_mission (coded× (coded× coded_ℕ coded_ℕ) (coded× nodes.the_row.coded (coded× ledger.the_row.coded (coded× coded_set (coded_option coded_halt))))))
-    (λ w. (w.mission, ((w.done, w.carried), (w.nodes, (w.ledger, (w.switches, w.spent))))))
-    (λ p. record { mission = p.0; done = p.1.0.0; carried = p.1.0.1; nodes = p.1.1.0; ledger = p.1.1.1.0; switches = p.1.1.1.1.0; spent = p.1.1.1.1.1 })
+    code_by (MissionValue × ((ℕ × ℕ) × (List NodeValue × (LedgerValue × (ChannelSet × (Option HaltValue × Option SettledValue))))))
+    (coded× coded_mission (coded× (coded× coded_ℕ coded_ℕ) (coded× nodes.the_row.coded (coded× ledger.the_row.coded (coded× coded_set (coded× (coded_option coded_halt) (coded_option coded_settled)))))))
+    (λ w. (w.mission, ((w.done, w.carried), (w.nodes, (w.ledger, (w.switches, (w.spent, w.settled)))))))
+    (λ p. record { mission = p.0; done = p.1.0.0; carried = p.1.0.1; nodes = p.1.1.0; ledger = p.1.1.1.0; switches = p.1.1.1.1.0; spent = p.1.1.1.1.1.0; settled = p.1.1.1.1.1.1 })
     (λ _. refl)

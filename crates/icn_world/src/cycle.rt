@@ -49,7 +49,7 @@ impl World {
         let joining = targets(settled.transfer);
         let restored = self.restore(alloc, bus, &mut disturbance, joining)?;
         let part = self.record(&settled, lines, traces, &restored);
-        self.end(&restored);
+        self.end(&restored, &disturbance);
         Ok(part)
     }
 

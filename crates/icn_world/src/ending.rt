@@ -2,24 +2,30 @@
 ghost use Rattle.std.specs.Prelude.{◌≡◌};
 ghost use Rattle.guards_model.specs.Network.{Log};
 ghost use Rattle.guards_model.specs.Rounds.{Steps};
-ghost use Rattle.fault_script.specs.declared.disturbance.Disturbance.{Disturbance};
 ghost use Rattle.world_laws.specs.Passing.{world_after};
 ghost use Rattle.icn_world.specs.Restored.{IsRestored};
 
 use crate::restoring::Restored;
-use crate::world::World;
+use crate::world::{LastCycle, World};
+use fault_script::Disturbance;
 
 impl World {
     // Ends the cycle: the switchboard closes, the removed channels rest, those that took a content run, and the ledger and
     // the count of cycles go on.
-    pub(crate) fn end(&mut self, restored: &Restored)
-        requires { (L : Log) × (now : Log) × (steps : Steps) × (d : Disturbance) × IsRestored restored.now L now steps self.old d }
-        ensures { (L now : Log) (steps : Steps) (d : Disturbance) → IsRestored restored.now L now steps self.old d →
+    pub(crate) fn end(&mut self, restored: &Restored, disturbance: &Disturbance)
+        requires { (L : Log) × (now : Log) × (steps : Steps) × IsRestored restored.now L now steps self.old disturbance.now }
+        ensures { (L now : Log) (steps : Steps) → IsRestored restored.now L now steps self.old disturbance.now →
             self.new ≡ world_after self.old.mission L now steps self.old.done self.old.carried }
     {
+        let settled = LastCycle {
+            cycle: self.done,
+            active: self.switchboard.on(),
+            disturbed: disturbance.set(&self.ledger),
+        };
         let on = self.switchboard.close(&restored.sent);
         self.nodes.end(on, restored.taken);
         self.ledger.end_cycle(on, restored.taken);
         self.done += 1;
+        self.settled = Some(settled);
     }
 }

@@ -35,7 +35,26 @@ impl From<AllocError> for Halt {
     }
 }
 
-/// All nodes, the ledger and the switches. A spent world keeps its halt.
+/// The last finished cycle: its number, who was active, and who was disturbed at its end.
+#[derive(Clone, Copy, Debug, PartialEq, Eq)]
+pub struct LastCycle {
+    pub cycle: u32,
+    pub active: ChanSet,
+    pub disturbed: ChanSet,
+}
+
+impl Model for LastCycle {
+    ghost use Rattle.guards_model.specs.Settled.{SettledValue};
+
+    ghost Value = { SettledValue };
+
+    ghost view = { λ s. record { cycle = s.cycle; active = s.active; disturbed = s.disturbed } };
+
+    ghost inverse = { λ s. record { cycle = s.cycle; active = s.active; disturbed = s.disturbed } };
+}
+
+/// All nodes, of which there are as many as the mission has channels, the ledger and the switches. A spent world keeps its
+/// halt.
 #[derive(Drop)]
 pub struct World {
     pub(crate) mission: Mission,
@@ -45,6 +64,8 @@ pub struct World {
     pub(crate) ledger: Ledger,
     pub(crate) switchboard: Switchboard,
     pub(crate) spent: Option<Halt>,
+    pub(crate) settled: Option<LastCycle>,
+    ghost counted: { length nodes ≡ mission.rules.channels },
 }
 
 impl Model for World {
@@ -65,12 +86,13 @@ impl Model for World {
       ledger = w.ledger;
       switches = w.switchboard;
       spent = option_map halt_value w.spent;
+      settled = w.settled;
     } };
 }
 
 impl World {
     /// The world of a mission before its first cycle.
-    #[tactic(auto, using(crate::proofs::Entering::first_ledger_is))]
+    #[tactic(auto, using(crate::proofs::Entering::first_ledger_is, crate::proofs::Entering::first_count))]
     pub fn start(alloc: Global, mission: Mission) -> Result<World, AllocError>
         ensures { IfOk result (λ world. world ≡ first_world mission) }
     {
@@ -86,6 +108,7 @@ impl World {
             ledger,
             switchboard: Switchboard::new(ChanSet::below(channels)),
             spent: None,
+            settled: None,
         })
     }
 
@@ -94,6 +117,13 @@ impl World {
         ensures { result ≡ self.now.done }
     {
         self.done
+    }
+
+    /// Who was active in the last finished cycle, and who was disturbed at its end; none before the first.
+    pub fn settled(&self) -> Option<LastCycle>
+        ensures { result ≡ self.now.settled }
+    {
+        self.settled
     }
 
     /// Lends the mission.
@@ -112,7 +142,7 @@ impl World {
 
     /// Lends the node of a channel.
     pub fn node(&self, c: Chan) -> &Node
-        requires { c < length self.now.nodes }
+        requires { c < self.now.mission.rules.channels }
         ensures { slice_get self.now.nodes c ≡ Some result.now }
     {
         self.nodes.get(c)

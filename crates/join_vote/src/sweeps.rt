@@ -1,5 +1,6 @@
 //! What the sweep frames of a cycle say.
 ghost use Rattle.std.specs.Prelude.{◌≡◌, ◌≤◌, ◌*◌, ◌==◌, nat_lt, length, map, filter_map, find, count_by, option_map};
+ghost use Rattle.std.specs.Option.{option_copied};
 ghost use Rattle.guards_model.specs.Majority.{majority, majority_of};
 ghost use Rattle.guards_model.specs.Replicas.{block_in_frame, same_words};
 
@@ -46,14 +47,14 @@ pub fn most_start(frames: &[SweepBody]) -> Option<u32>
 }
 
 /// The words of the first copy of a block.
-fn copy_of(copies: &[BlockCopy], block: u8) -> Option<Block>
-    ensures { option_map (λ b. b.words) result ≡ option_map (λ copy. copy.words) (find (λ copy. copy.block == block) copies.now) }
+fn copy_of(copies: &[BlockCopy], block: u8) -> Option<&Block>
+    ensures { option_map (λ b. b.words) (option_copied result) ≡ option_map (λ copy. copy.words) (find (λ copy. copy.block == block) copies.now) }
 {
     match copies {
         [] => None,
         [copy, rest @ ..] => {
             if copy.block == block {
-                Some(copy.words)
+                Some(&copy.words)
             } else {
                 copy_of(rest, block)
             }
@@ -62,8 +63,8 @@ fn copy_of(copies: &[BlockCopy], block: u8) -> Option<Block>
 }
 
 /// The words that a frame of this start has for a block.
-fn words_in(frame: &SweepBody, start: u32, block: u8) -> Option<Block>
-    ensures { option_map (λ b. b.words) result ≡ block_in_frame start block frame.now }
+fn words_in(frame: &SweepBody, start: u32, block: u8) -> Option<&Block>
+    ensures { option_map (λ b. b.words) (option_copied result) ≡ block_in_frame start block frame.now }
 {
     if frame.start == start {
         copy_of(frame.blocks.as_slice(), block)
@@ -90,7 +91,7 @@ fn with_words(frames: &[SweepBody], start: u32, block: u8, words: &Block) -> usi
             let others = with_words(rest, start, block, words);
             match words_in(frame, start, block) {
                 Some(other) => {
-                    if same_block(words, &other) {
+                    if same_block(words, other) {
                         others + 1
                     } else {
                         others
@@ -110,8 +111,8 @@ pub fn most_words(frames: &[SweepBody], rest: &[SweepBody], start: u32, block: u
         [] => None,
         [frame, others @ ..] => match words_in(frame, start, block) {
             Some(words) => {
-                if is_most(with_words(frames, start, block, &words), frames.len()) {
-                    Some(words)
+                if is_most(with_words(frames, start, block, words), frames.len()) {
+                    Some(*words)
                 } else {
                     most_words(frames, others, start, block)
                 }

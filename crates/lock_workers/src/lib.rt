@@ -3,4 +3,4 @@
 
 mod workers;
 
-pub use workers::{both, pair, work};
+pub use workers::{both, in_turn, pair, work};

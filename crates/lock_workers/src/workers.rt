@@ -57,6 +57,25 @@ pub fn pair<T: Turned, G: Gate, R: Threads + Wait + Sync>(
     )
 }
 
+/// The same by this thread alone: all steps of the first pass, and then all of the second.
+pub fn in_turn<T: Turned, G: Gate, R: Wait>(
+    rt: &R,
+    shared: &Shared<T>,
+    chan: u8,
+    task: Pass<T>,
+    sweep: Pass<T>,
+    gate: &G,
+) -> (Pass<T>, Pass<T>)
+    requires task { IsPassOf shared.now task }
+    requires sweep { IsPassOf shared.now sweep }
+    ensures task { IsWorkedOut T.due task result.0 }
+    ensures sweep { IsWorkedOut T.due sweep result.1 }
+{
+    let task = work(rt, shared, chan, task, gate);
+    let sweep = work(rt, shared, chan, sweep, gate);
+    (task, sweep)
+}
+
 /// Two workers side by side make all steps that are due. The value comes closed; for want of memory it comes back as
 /// it was.
 pub fn both<T: Turned, G: Gate, R: Threads + Wait + Sync>(

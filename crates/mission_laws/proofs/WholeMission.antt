@@ -48,6 +48,7 @@ mission_is core known fields all =
       outputs = outputs;
       sensors = sensors;
       script = script;
+      actuator = None;
     } in
     gives_ok M (record {
       rules = known.rules;
@@ -59,6 +60,7 @@ mission_is core known fields all =
       outputs = outputs_in blocks width few fields all outputs c;
       sensors = sensors_in channels width fields all sensors d;
       script = script_in channels core.sizes.cycles blocks fields all script e M refl refl refl;
+      actuator = refl;
     }))))))
 
 document_is : (fields : Members) → members_hold_words fields ≡ true → Gives IsMission (mission_at fields)

@@ -89,35 +89,32 @@ pub(crate) fn answer(alloc: Global, bytes: &[u8]) -> Result<String, Fail> {
     }
 }
 
-// The answer to the mission with one text in it replaced.
-pub(crate) fn changed(alloc: Global, old: &str, new: &str) -> Result<String, Fail> {
-    let text = MISSION.replace(alloc, old, new)?;
-    answer(alloc, text.as_bytes())
-}
-
-// The answer to the mission with two texts in it replaced.
-pub(crate) fn changed_twice(
-    alloc: Global,
-    first: (&str, &str),
-    second: (&str, &str),
-) -> Result<String, Fail> {
-    let text = MISSION.replace(alloc, first.0, first.1)?;
-    let text = text.replace(alloc, second.0, second.1)?;
-    answer(alloc, text.as_bytes())
-}
-
-// A text with so many copies of one in it.
-pub(crate) fn repeated(
-    alloc: Global,
-    front: &str,
-    one: &str,
-    count: usize,
-    back: &str,
-) -> Result<String, Fail> {
-    let mut text = String::from_str(alloc, front)?;
-    for _ in 0..count {
-        text.push_str(one)?;
+// The answer to the mission after changes, `OLD|NEW` or `OLD|NEW|OLD|NEW`, in which ¶ stands for the end of a line.
+fn answer_after(alloc: Global, changes: &str) -> Result<String, Fail> {
+    let changes = changes.replace(alloc, "¶", "\n")?;
+    let mut text = String::from_str(alloc, MISSION)?;
+    let mut old = None;
+    for part in changes.split('|') {
+        old = match old {
+            None => Some(part),
+            Some(old) => {
+                text = text.replace(alloc, old, part)?;
+                None
+            }
+        };
     }
-    text.push_str(back)?;
-    Ok(text)
+    answer(alloc, text.as_bytes())
+}
+
+// How many rows there are, and each whose answer is another. A row is a line of changes and the answer, with | between them.
+pub(crate) fn told(alloc: Global, rows: &str) -> Result<String, Fail> {
+    let mut others = String::new(alloc);
+    for row in rows.lines() {
+        let (changes, want) = row.rsplit_once('|').ok_or("a row without an answer")?;
+        let got = answer_after(alloc, changes)?;
+        if got.as_str() != want {
+            others.push_str(&format!(in alloc; "; {row}: {got}")?)?;
+        }
+    }
+    Ok(format!(in alloc; "{} rows{others}", rows.lines().count())?)
 }

@@ -1,124 +1,48 @@
 //! Lengths and counts.
 
-use crate::answers::{answer, changed, repeated};
+use crate::answers::{answer, told};
 use std::alloc::Global;
 use std::test::Fail;
 
+const LENGTHS: &str =
+    "writes = [{ block = 1, w3 = \"sat(in1, -5, 5)\" }]|writes = [|{ block = 1, w3 = \"1\" }, |16|{ block = 1, w3 = \"1\" }]|out-of-range task[1].writes
+writes = [{ block = 1, w3 = \"sat(in1, -5, 5)\" }]|writes = [|{ block = 1, w3 = \"1\" }, |15|{ block = 1, w3 = \"1\" }]|read
+w3 = \"sat(in1, -5, 5)\"|w3 = \"| |1099|1\"|read
+w3 = \"sat(in1, -5, 5)\"|w3 = \"| |1100|1\"|bad-expr task[1].writes[0].w3 at 1100
+w3 = \"sat(in1, -5, 5)\"|w3 = \"|x|1101|\"|bad-expr task[1].writes[0].w3 at 1100
+table = [[\"sum\", \"keep\"], [], [\"keep\"]]|table = [[], [|\"sum\", |16|\"sum\"]]|out-of-range table[1]
+table = [[\"sum\", \"keep\"], [], [\"keep\"]]|table = [[], [|\"sum\", |15|\"sum\"]]|read
+sensors = [[[1, 2], [3, 4], [5, 6]], [[-1, -2], [-3, -4], [-5, -6]]]|sensors = [|[[1, 2], [3, 4], [5, 6]], |63|[[1, 2], [3, 4], [5, 6]]]|read
+sensors = [[[1, 2], [3, 4], [5, 6]], [[-1, -2], [-3, -4], [-5, -6]]]|sensors = [|[[1, 2], [3, 4], [5, 6]], |64|[[1, 2], [3, 4], [5, 6]]]|out-of-range sensors
+bytes = \"00ff\"¶|bytes = \"00ff\"¶|[[fault]]¶kind = \"restart\"¶cycle = 0¶channel = 0¶|1019||read
+bytes = \"00ff\"¶|bytes = \"00ff\"¶|[[fault]]¶kind = \"restart\"¶cycle = 0¶channel = 0¶|1020||out-of-range fault
+bytes = \"00ff\"¶|bytes = \"|00|4300|\"¶|read
+bytes = \"00ff\"¶|bytes = \"|00|4301|\"¶|out-of-range fault[4].bytes
+";
+
+// The rows that rows `OLD|FRONT|ONE|COUNT|BACK|ANSWER` stand for: OLD gives way to so many copies of ONE between FRONT and BACK.
+fn with_copies(alloc: Global, rows: &str) -> Result<String, Fail> {
+    let mut text = String::new(alloc);
+    for row in rows.lines() {
+        let (old, rest) = row.split_once('|').ok_or("no old text")?;
+        let (front, rest) = rest.split_once('|').ok_or("no front")?;
+        let (one, rest) = rest.split_once('|').ok_or("nothing to copy")?;
+        let (count, back) = rest.split_once('|').ok_or("no count")?;
+        text.push_str(&format!(in alloc; "{old}|{front}")?)?;
+        for _ in 0..count.parse::<u16>().unwrap_or(0) {
+            text.push_str(one)?;
+        }
+        text.push_str(&format!(in alloc; "{back}\n")?)?;
+    }
+    Ok(text)
+}
+
 #[test]
 fn lengths(rt: HostRuntime) -> Result<(), Fail> {
-    for (old, front, one, count, back, want) in [
-        (
-            "writes = [{ block = 1, w3 = \"sat(in1, -5, 5)\" }]",
-            "writes = [",
-            "{ block = 1, w3 = \"1\" }, ",
-            16,
-            "{ block = 1, w3 = \"1\" }]",
-            "out-of-range task[1].writes",
-        ),
-        (
-            "writes = [{ block = 1, w3 = \"sat(in1, -5, 5)\" }]",
-            "writes = [",
-            "{ block = 1, w3 = \"1\" }, ",
-            15,
-            "{ block = 1, w3 = \"1\" }]",
-            "read",
-        ),
-        (
-            "w3 = \"sat(in1, -5, 5)\"",
-            "w3 = \"",
-            " ",
-            1099,
-            "1\"",
-            "read",
-        ),
-        (
-            "w3 = \"sat(in1, -5, 5)\"",
-            "w3 = \"",
-            " ",
-            1100,
-            "1\"",
-            "bad-expr task[1].writes[0].w3 at 1100",
-        ),
-        (
-            "w3 = \"sat(in1, -5, 5)\"",
-            "w3 = \"",
-            "x",
-            1101,
-            "\"",
-            "bad-expr task[1].writes[0].w3 at 1100",
-        ),
-        (
-            "table = [[\"sum\", \"keep\"], [], [\"keep\"]]",
-            "table = [[], [",
-            "\"sum\", ",
-            16,
-            "\"sum\"]]",
-            "out-of-range table[1]",
-        ),
-        (
-            "table = [[\"sum\", \"keep\"], [], [\"keep\"]]",
-            "table = [[], [",
-            "\"sum\", ",
-            15,
-            "\"sum\"]]",
-            "read",
-        ),
-        (
-            "sensors = [[[1, 2], [3, 4], [5, 6]], [[-1, -2], [-3, -4], [-5, -6]]]",
-            "sensors = [",
-            "[[1, 2], [3, 4], [5, 6]], ",
-            63,
-            "[[1, 2], [3, 4], [5, 6]]]",
-            "read",
-        ),
-        (
-            "sensors = [[[1, 2], [3, 4], [5, 6]], [[-1, -2], [-3, -4], [-5, -6]]]",
-            "sensors = [",
-            "[[1, 2], [3, 4], [5, 6]], ",
-            64,
-            "[[1, 2], [3, 4], [5, 6]]]",
-            "out-of-range sensors",
-        ),
-        (
-            "bytes = \"00ff\"\n",
-            "bytes = \"00ff\"\n",
-            "[[fault]]\nkind = \"restart\"\ncycle = 0\nchannel = 0\n",
-            1019,
-            "",
-            "read",
-        ),
-        (
-            "bytes = \"00ff\"\n",
-            "bytes = \"00ff\"\n",
-            "[[fault]]\nkind = \"restart\"\ncycle = 0\nchannel = 0\n",
-            1020,
-            "",
-            "out-of-range fault",
-        ),
-        (
-            "bytes = \"00ff\"\n",
-            "bytes = \"",
-            "00",
-            4300,
-            "\"\n",
-            "read",
-        ),
-        (
-            "bytes = \"00ff\"\n",
-            "bytes = \"",
-            "00",
-            4301,
-            "\"\n",
-            "out-of-range fault[4].bytes",
-        ),
-    ] {
-        let new = repeated(rt.alloc(), front, one, count, back)?;
-        assert_eq!(rt;
-            changed(rt.alloc(), old, new.as_str())?.as_str(),
-            want,
-            "{front} {count}"
-        );
-    }
+    assert_eq!(rt;
+        told(rt.alloc(), with_copies(rt.alloc(), LENGTHS)?.as_str())?.as_str(),
+        "13 rows"
+    );
     Ok(())
 }
 

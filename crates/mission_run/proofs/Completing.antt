@@ -1,5 +1,5 @@
 -- A command is carried out to its end, unless memory runs out, a fault comes or a slot stops the run.
-use Rattle.std.proofs.Common.{◌≡◌, ◌≤◌, ◌⊎◌, ◌-◌, inl, inr, ℕ, Bool, List, ◌++◌, length, Some, None, Ok, refl, sym, ap, subst, ◌∙◌, arith}
+use Rattle.std.proofs.Common.{◌≡◌, ◌≤◌, ◌⊎◌, ◌-◌, inl, inr, ℕ, Bool, List, ◌++◌, length, Option, Some, None, Ok, refl, sym, ap, subst, ◌∙◌, arith}
 use Rattle.std.proofs.Math.Seq.{drop-append_seam}
 use Rattle.std.specs.Prelude.{drop}
 use Rattle.guards_io.specs.Causes.{Rose}
@@ -20,11 +20,11 @@ use Rattle.command_words.specs.declared.command.Command.{Command}
 use Rattle.command_words.specs.declared.command.Command.TheVariants as command
 use Rattle.run_laws.specs.Runs.{Ran, RanToStop}
 use Rattle.world_run.specs.Running.{stop_value}
-use Rattle.mission_run.specs.declared.input.TheConstants.{LIMIT}
+use Rattle.mission_run.specs.declared.limit.TheConstants.{LIMIT}
 use Rattle.mission_run.specs.declared.status.Status.{Status}
 use Rattle.mission_run.specs.declared.status.Status.TheVariants.{Done, Usage, BadMission, TooLong, ReadFault, WriteFault, TooManyDisturbed, NoMemory}
 use Rattle.mission_run.specs.Reading.{OfMission, Tells}
-use Rattle.mission_run.specs.TopCall.{Outside, RunsMission, RunsDemo, Serves, Outcome, CompletesCommand, Completes}
+use Rattle.mission_run.specs.TopCall.{Outside, RunsMission, RunsMissionLast, RunsTold, RunsDemo, Serves, Outcome, CompletesCommand, Completes}
 use Rattle.mission_run.proofs.Complete.{refused_for_memory, same_mission, told_to_end}
 use Rattle.mission_run.proofs.ByCommand.{by_command}
 
@@ -53,6 +53,23 @@ module _ (may : List RuleValue → EntryValue → Type 0) (M : MissionValue) (bu
   run_to_end trace out out' TooLong L ran grew goes_on no_write = absurd ran
   run_to_end trace out out' ReadFault L ran grew goes_on no_write = absurd ran
 
+  last_to_end : (k : ℕ) (trace : Bool) (out out' : SinkView) (status : Status) (L : Log) → RunsMissionLast may k trace M bus bus' out out' status → bus'.log ≡ bus.log ++ L → stop_of (cycles_before M L M.cycles) ≡ None →
+      (Rose out.faults out'.faults → ⊥) → (status ≡ Done) ⊎ (status ≡ NoMemory)
+  last_to_end k trace out out' Done L ran grew goes_on no_write = inl refl
+  last_to_end k trace out out' NoMemory L ran grew goes_on no_write = inr refl
+  last_to_end k trace out out' WriteFault L ran grew goes_on no_write = absurd (no_write ran.5)
+  last_to_end k trace out out' (TooManyDisturbed cycle slot set active) L ran grew goes_on no_write =
+      absurd (not_stopped ran.0 L (stop_value cycle slot set active) ran.1 ran.3 ran.4 grew goes_on)
+  last_to_end k trace out out' Usage L ran grew goes_on no_write = absurd ran
+  last_to_end k trace out out' (BadMission why) L ran grew goes_on no_write = absurd ran
+  last_to_end k trace out out' TooLong L ran grew goes_on no_write = absurd ran
+  last_to_end k trace out out' ReadFault L ran grew goes_on no_write = absurd ran
+
+  told_to_its_end : (last : Option ℕ) (trace : Bool) (out out' : SinkView) (status : Status) (L : Log) → RunsTold may last trace M bus bus' out out' status → bus'.log ≡ bus.log ++ L → stop_of (cycles_before M L M.cycles) ≡ None →
+      (Rose out.faults out'.faults → ⊥) → (status ≡ Done) ⊎ (status ≡ NoMemory)
+  told_to_its_end None trace out out' status L ran grew goes_on no_write = run_to_end trace out out' status L ran grew goes_on no_write
+  told_to_its_end (Some k) trace out out' status L ran grew goes_on no_write = last_to_end k trace out out' status L ran grew goes_on no_write
+
 demo_to_end : (may : List RuleValue → EntryValue → Type 0) (number : ℕ) (bus bus' : BusValue) (out out' : SinkView) (status : Status) (L : Log) → RunsDemo may number bus bus' out out' status →
     bus'.log ≡ bus.log ++ L → stop_of (cycles_before (demo_mission number) L (demo_mission number).cycles) ≡ None → (Rose out.faults out'.faults → ⊥) → (status ≡ Done) ⊎ (status ≡ NoMemory)
 demo_to_end may number bus bus' out out' Done L ran grew goes_on no_write = inl refl
@@ -67,11 +84,11 @@ demo_to_end may number bus bus' out out' ReadFault L ran grew goes_on no_write =
 
 module _ (may : List RuleValue → EntryValue → Type 0) (old new : Outside) (status : Status) where
   served : (asked : Command) → Serves may asked old new status → CompletesCommand asked old new status
-  served (command.Run trace) (inl refused) = λ bytes M told within is L grew goes_on no_read no_write.
+  served (command.Run trace last) (inl refused) = λ bytes M told within is L grew goes_on no_read no_write.
       refused_for_memory old.source new.source old.sink new.sink status bytes M refused.0 told within is no_read
-  served (command.Run trace) (inr ran) = λ bytes M told within is L grew goes_on no_read no_write.
+  served (command.Run trace last) (inr ran) = λ bytes M told within is L grew goes_on no_read no_write.
       let same = same_mission old.source new.source ran.0 bytes ran.1 M ran.2 ran.3 told is in
-      run_to_end may M old.bus new.bus trace old.sink new.sink status L (subst (λ K. RunsMission may trace K old.bus new.bus old.sink new.sink status) same ran.4) grew goes_on no_write
+      told_to_its_end may M old.bus new.bus last trace old.sink new.sink status L (subst (λ K. RunsTold may last trace K old.bus new.bus old.sink new.sink status) same ran.4) grew goes_on no_write
   served command.Check (went, kept) = λ bytes M told within is no_read no_write. by went bytes M told within is no_read no_write
     where
       by : OfMission (Unit {0}) (λ M. Tells (check_of M) old.sink new.sink status) old.source new.source old.sink new.sink status →
@@ -82,7 +99,7 @@ module _ (may : List RuleValue → EntryValue → Type 0) (old new : Outside) (s
   served (command.Demo number) (kept, ran) = λ L grew goes_on no_read no_write. demo_to_end may number old.bus new.bus old.sink new.sink status L ran grew goes_on no_write
 
 short_completes : (asked : Command) (old new : Outside) → CompletesCommand asked old new NoMemory
-short_completes (command.Run trace) old new = λ bytes M told within is L grew goes_on no_read no_write. inr refl
+short_completes (command.Run trace last) old new = λ bytes M told within is L grew goes_on no_read no_write. inr refl
 short_completes command.Check old new = λ bytes M told within is no_read no_write. inr refl
 short_completes (command.Demo number) old new = λ L grew goes_on no_read no_write. inr refl
 

@@ -1,5 +1,5 @@
 -- A mission without faults is run to its end, and its report is the ideal machine's.
-use Rattle.std.proofs.Common.{◌≡◌, ◌⊎◌, inl, inr, ℕ, Bool, true, false, cond, List, [], ◌∷◌, None, Some, refl, sym, ap, subst, ◌∙◌, arith, append-nil}
+use Rattle.std.proofs.Common.{◌≡◌, ◌⊎◌, inl, inr, ℕ, Bool, true, false, cond, List, [], ◌∷◌, Option, None, Some, refl, sym, ap, subst, ◌∙◌, arith, append-nil}
 use Rattle.std.specs.Prelude.{find, option_map}
 use Rattle.std.specs.List.{list_all}
 use Rattle.std.specs.Io.KnownBytes.{Appends}
@@ -28,7 +28,7 @@ use Rattle.command_words.specs.declared.command.Command.{Command}
 use Rattle.command_words.specs.declared.command.Command.TheVariants as command
 use Rattle.mission_run.specs.declared.status.Status.{Status}
 use Rattle.mission_run.specs.declared.status.Status.TheVariants.{Done, Usage, BadMission, TooLong, ReadFault, WriteFault, TooManyDisturbed, NoMemory}
-use Rattle.mission_run.specs.TopCall.{Outside, RunsMission, Serves, Outcome, DoesScript, HasNoFaults, TellsIdeal, RunsIdeal, EndsWell}
+use Rattle.mission_run.specs.TopCall.{Outside, RunsMission, RunsMissionLast, RunsTold, Serves, Outcome, DoesScript, HasNoFaults, TellsIdeal, RunsIdeal, EndsWell}
 use Rattle.mission_run.proofs.Complete.{refused_for_memory, same_mission}
 use Rattle.mission_run.proofs.ByCommand.{by_command}
 use Rattle.mission_run.proofs.Repeating.{scripted, refused_repeats}
@@ -86,12 +86,12 @@ module _ (may : List RuleValue → EntryValue → Type 0) (does : DoesScript may
 
   module _ (out out' : SinkView) where
     tells_ideal : (trace : Bool) (L : Log) (histories : Histories) → Ran may M bus bus' L → RanCycles M M.cycles L histories → Appends out.written out'.written (run_text trace M L histories) →
-        TellsIdeal trace M out out'
+        TellsIdeal None trace M out out'
     tells_ideal true L histories ran cycles wrote = tt
     tells_ideal false L histories ran cycles wrote =
         subst (Appends out.written out'.written) (report_is M L mission (faultless L histories ran) (has_due L histories cycles)) wrote
 
-    run_is_ideal : (trace : Bool) (status : Status) → RunsMission may trace M bus bus' out out' status → (Rose out.faults out'.faults → ⊥) → (status ≡ NoMemory) ⊎ ((status ≡ Done) × TellsIdeal trace M out out')
+    run_is_ideal : (trace : Bool) (status : Status) → RunsMission may trace M bus bus' out out' status → (Rose out.faults out'.faults → ⊥) → (status ≡ NoMemory) ⊎ ((status ≡ Done) × TellsIdeal None trace M out out')
     run_is_ideal trace Done (L, histories, ran, cycles, wrote, quiet) no_write = inr (refl, tells_ideal trace L histories ran cycles wrote)
     run_is_ideal trace NoMemory ran no_write = inl refl
     run_is_ideal trace WriteFault ran no_write = absurd (no_write ran.6)
@@ -101,30 +101,44 @@ module _ (may : List RuleValue → EntryValue → Type 0) (does : DoesScript may
     run_is_ideal trace TooLong ran no_write = absurd ran
     run_is_ideal trace ReadFault ran no_write = absurd ran
 
+    last_is_ideal : (k : ℕ) (trace : Bool) (status : Status) → RunsMissionLast may k trace M bus bus' out out' status → (Rose out.faults out'.faults → ⊥) → (status ≡ NoMemory) ⊎ ((status ≡ Done) × TellsIdeal (Some k) trace M out out')
+    last_is_ideal k trace Done ran no_write = inr (refl, tt)
+    last_is_ideal k trace NoMemory ran no_write = inl refl
+    last_is_ideal k trace WriteFault ran no_write = absurd (no_write ran.5)
+    last_is_ideal k trace (TooManyDisturbed cycle slot set active) ran no_write = absurd (not_stopped ran.0 (stop_value cycle slot set active) ran.1 ran.3 ran.4)
+    last_is_ideal k trace Usage ran no_write = absurd ran
+    last_is_ideal k trace (BadMission why) ran no_write = absurd ran
+    last_is_ideal k trace TooLong ran no_write = absurd ran
+    last_is_ideal k trace ReadFault ran no_write = absurd ran
+
+    told_is_ideal : (last : Option ℕ) (trace : Bool) (status : Status) → RunsTold may last trace M bus bus' out out' status → (Rose out.faults out'.faults → ⊥) → (status ≡ NoMemory) ⊎ ((status ≡ Done) × TellsIdeal last trace M out out')
+    told_is_ideal None trace status ran no_write = run_is_ideal trace status ran no_write
+    told_is_ideal (Some k) trace status ran no_write = last_is_ideal k trace status ran no_write
+
 -- ---- the call
 
 -- what the call does where it is `run`
 abbrev Ideal : Outside → Outside → Command → Status → Type 0
-Ideal old new (command.Run trace) status = RunsIdeal trace old new status
+Ideal old new (command.Run trace last) status = RunsIdeal last trace old new status
 Ideal old new command.Check status = Unit {0}
 Ideal old new (command.Demo number) status = Unit {0}
 
 module _ (may : List RuleValue → EntryValue → Type 0) (does : DoesScript may) (old new : Outside) where
   served : (asked : Command) (status : Status) → Serves may asked old new status → Ideal old new asked status
-  served (command.Run trace) status (inl refused) = λ bytes M told within is none no_read no_write.
+  served (command.Run trace last) status (inl refused) = λ bytes M told within is none no_read no_write.
       inl (refused_repeats old.source new.source old.sink new.sink status refused.0 (refused_for_memory old.source new.source old.sink new.sink status bytes M refused.0 told within is no_read))
-  served (command.Run trace) status (inr ran) = λ bytes M told within is none no_read no_write.
+  served (command.Run trace last) status (inr ran) = λ bytes M told within is none no_read no_write.
       let same = same_mission old.source new.source ran.0 bytes ran.1 M ran.2 ran.3 told is in
-      run_is_ideal may does M (read_missions bytes M is) none old.bus new.bus old.sink new.sink trace status
-      (subst (λ J. RunsMission may trace J old.bus new.bus old.sink new.sink status) same ran.4) no_write
+      told_is_ideal may does M (read_missions bytes M is) none old.bus new.bus old.sink new.sink last trace status
+      (subst (λ J. RunsTold may last trace J old.bus new.bus old.sink new.sink status) same ran.4) no_write
   served command.Check status ran = tt
   served (command.Demo number) status ran = tt
 
 short_of_memory : (asked : Command) (old new : Outside) → Ideal old new asked NoMemory
-short_of_memory (command.Run trace) old new = λ bytes M told within is none no_read no_write. inl refl
+short_of_memory (command.Run trace last) old new = λ bytes M told within is none no_read no_write. inl refl
 short_of_memory command.Check old new = tt
 short_of_memory (command.Demo number) old new = tt
 
 pub outcome_ends_well : (may : List RuleValue → EntryValue → Type 0) (words : List (List ℕ)) (old new : Outside) (status : Status) → Outcome may words old new status → EndsWell may words old new status
-outcome_ends_well may words old new status outcome = λ does trace is.
-    by_command may words old new (Ideal old new) (served may does old new) (λ asked. short_of_memory asked old new) status outcome (command.Run trace) is
+outcome_ends_well may words old new status outcome = λ does trace last is.
+    by_command may words old new (Ideal old new) (served may does old new) (λ asked. short_of_memory asked old new) status outcome (command.Run trace last) is

@@ -1,5 +1,5 @@
 -- What `run` and `demo` answer and write is what any run of the mission over the scripted bus tells that came to its end.
-use Rattle.std.proofs.Common.{◌≡◌, ◌⊎◌, ◌-◌, inl, inr, ℕ, true, false, List, ◌++◌, Some, refl, sym, ap, subst, ◌∙◌, arith}
+use Rattle.std.proofs.Common.{◌≡◌, ◌⊎◌, ◌-◌, inl, inr, ℕ, true, false, List, Option, None, ◌++◌, Some, refl, sym, ap, subst, ◌∙◌, arith}
 use Rattle.std.specs.List.{AllByRecursion, AllZip}
 use Rattle.std.specs.Io.KnownBytes.{Appends}
 use Rattle.guards_io.specs.Causes.{Rose}
@@ -9,7 +9,7 @@ use Rattle.guards_model.specs.Missions.{MissionValue, bus_rules}
 use Rattle.guards_model.specs.Network.{EntryValue, Log}
 use Rattle.guards_model.specs.Rounds.{Histories}
 use Rattle.guards_model.specs.ScriptedBus.{IsScripted}
-use Rattle.guards_model.specs.Texts.{TextValue, StopValue, stop_line}
+use Rattle.guards_model.specs.Texts.{Part, TextValue, StopValue, stop_line, text_of}
 use Rattle.guards_model.proofs.Membership.{All-weaker}
 use Rattle.guards_runs.specs.Cycles.{cycles_before, cycle_at}
 use Rattle.guards_runs.specs.Disturbed.{stop_of}
@@ -19,9 +19,9 @@ use Rattle.guards_runs.specs.Report.{report}
 use Rattle.guards_laws.proofs.LogGrows.{length-cycles_before}
 use Rattle.script_laws.specs.Scripts.{ForgesNoSweep, StopsAt, IsScriptedRun}
 use Rattle.guards_laws.proofs.FirstStop.{stop_stays}
-use Rattle.script_laws.proofs.Reports.{stops_alike, reports_alike}
+use Rattle.script_laws.proofs.Reports.{stops_alike, parts_alike, reports_alike}
 use Rattle.guards_world.specs.WorldCycle.{BusValue}
-use Rattle.run_laws.specs.Runs.{Ran, RanCycles, RanToStop}
+use Rattle.run_laws.specs.Runs.{Ran, RanCycles, RanToStop, shortened}
 use Rattle.run_laws.specs.Summaries.{summary}
 use Rattle.run_laws.proofs.Standing.{due_by, each_due}
 use Rattle.world_run.specs.Running.{stop_value, Refuses, EndsWith}
@@ -33,8 +33,8 @@ use Rattle.command_words.specs.declared.command.Command.TheVariants as command
 use Rattle.mission_run.specs.declared.status.Status.{Status}
 use Rattle.mission_run.specs.declared.status.Status.TheVariants.{Done, Usage, BadMission, TooLong, ReadFault, WriteFault, TooManyDisturbed, NoMemory}
 use Rattle.mission_run.specs.Reading.{RefusesBytes}
-use Rattle.mission_run.specs.Stream.{SourceView}
-use Rattle.mission_run.specs.TopCall.{Outside, RunsMission, RunsDemo, Serves, Outcome, DoesScript, status_of_end, text_or_stop, demo_text, TellsAsAny, RepeatsCommand, Repeats}
+use Rattle.guards_io.specs.Stream.{SourceView}
+use Rattle.mission_run.specs.TopCall.{Outside, RunsMission, RunsMissionLast, RunsTold, RunsDemo, Serves, Outcome, DoesScript, status_of_end, text_or_stop, demo_text, told_report, TellsAsAny, RepeatsCommand, Repeats}
 use Rattle.mission_run.proofs.Complete.{refused_for_memory, same_mission}
 use Rattle.mission_run.proofs.ByCommand.{by_command}
 use Rattle.mission_run.proofs.DemoTexts.{demo_texts_alike}
@@ -124,6 +124,37 @@ module _ (may : List RuleValue → EntryValue → Type 0) (does : DoesScript may
     run_repeats TooLong ran = absurd ran
     run_repeats ReadFault ran = absurd ran
 
+    -- ---- with the last k cycles alone
+
+    module _ (k : ℕ) where
+      abbrev short_report : MissionValue → Log → TextValue
+      short_report M L = told_report (Some k) M L
+
+      short_alike : (L K : Log) → IsScriptedRun M L → IsScriptedRun M K → short_report M L ≡ short_report M K
+      short_alike L K run_l run_k = ap (λ (parts : List Part). text_of (shortened k parts)) (parts_alike M L K none run_l run_k)
+
+      line_ended : (text : TextValue) → Refuses out out' text → Appends out.written out'.written text
+      line_ended text (inl all) = all.0
+      line_ended text (inr front) = absurd (no_write front.1)
+
+      last_repeats : (status : Status) → RunsMissionLast may k false M bus bus' out out' status → (status ≡ NoMemory) ⊎ TellsAsAny short_report M bus bus' out out' status
+      last_repeats Done (L, histories, ran, cycles, wrote, quiet) =
+          inr (told_whole may does M none short_report short_alike bus bus' out out' L histories ran cycles wrote)
+      last_repeats (TooManyDisturbed cycle slot set active) (L, histories, before, ran, to, text, ends) =
+          let stop = stop_value cycle slot set active in
+          inr (told_stop may does M none short_report short_alike bus bus' out out' L stop histories ran to
+          (subst (Appends out.written out'.written) (sym text) (line_ended (before ++ stop_line stop) ends)))
+      last_repeats NoMemory ran = inl refl
+      last_repeats WriteFault ran = absurd (no_write ran.5)
+      last_repeats Usage ran = absurd ran
+      last_repeats (BadMission why) ran = absurd ran
+      last_repeats TooLong ran = absurd ran
+      last_repeats ReadFault ran = absurd ran
+
+    told_repeats : (last : Option ℕ) (status : Status) → RunsTold may last false M bus bus' out out' status → (status ≡ NoMemory) ⊎ TellsAsAny (told_report last) M bus bus' out out' status
+    told_repeats None status ran = run_repeats status ran
+    told_repeats (Some k) status ran = last_repeats k status ran
+
   -- ---- `demo`
 
   module _ (number : ℕ) where
@@ -164,18 +195,18 @@ refused_repeats src src' out out' status refused (inr short) = short
 
 module _ (may : List RuleValue → EntryValue → Type 0) (does : DoesScript may) (old new : Outside) where
   served : (asked : Command) (status : Status) → Serves may asked old new status → RepeatsCommand asked old new status
-  served (command.Run false) status (inl refused) = λ bytes M told within is none no_read no_write.
+  served (command.Run false last) status (inl refused) = λ bytes M told within is none no_read no_write.
       inl (refused_repeats old.source new.source old.sink new.sink status refused.0 (refused_for_memory old.source new.source old.sink new.sink status bytes M refused.0 told within is no_read))
-  served (command.Run false) status (inr ran) = λ bytes M told within is none no_read no_write.
+  served (command.Run false last) status (inr ran) = λ bytes M told within is none no_read no_write.
       let same = same_mission old.source new.source ran.0 bytes ran.1 M ran.2 ran.3 told is in
-      run_repeats may does old.bus new.bus old.sink new.sink no_write M none status (subst (λ J. RunsMission may false J old.bus new.bus old.sink new.sink status) same ran.4)
-  served (command.Run true) status ran = tt
+      told_repeats may does old.bus new.bus old.sink new.sink no_write M none last status (subst (λ J. RunsTold may last false J old.bus new.bus old.sink new.sink status) same ran.4)
+  served (command.Run true last) status ran = tt
   served command.Check status ran = tt
   served (command.Demo number) status (kept, ran) = λ no_write. demo_repeats may does old.bus new.bus old.sink new.sink no_write number status ran
 
 short_repeats : (asked : Command) (old new : Outside) → RepeatsCommand asked old new NoMemory
-short_repeats (command.Run false) old new = λ bytes M told within is none no_read no_write. inl refl
-short_repeats (command.Run true) old new = tt
+short_repeats (command.Run false last) old new = λ bytes M told within is none no_read no_write. inl refl
+short_repeats (command.Run true last) old new = tt
 short_repeats command.Check old new = tt
 short_repeats (command.Demo number) old new = λ no_write. inl refl
 

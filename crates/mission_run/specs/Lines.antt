@@ -15,7 +15,7 @@ cause_name cause.Duplicate = codes "duplicate"
 cause_name cause.BadExpr = codes "bad-expr"
 
 unfoldable pub usage_line : List ℕ
-usage_line = codes "usage: guards run [--trace] | check | demo N\n"
+usage_line = codes "usage: guards run [--trace] [--last K] | check | demo N\n"
 
 unfoldable pub read_line : List ℕ
 read_line = codes "read fault\n"

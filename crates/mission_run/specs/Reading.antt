@@ -9,11 +9,11 @@ use Rattle.mission_text.specs.Mission.{mission_of}
 use Rattle.ideal_run.specs.Writes.{SinkView, AppendsPart, AppendsFront}
 use Rattle.check_text.specs.Check.{check_of}
 use Rattle.world_run.specs.Running.{Refuses}
-use Rattle.mission_run.specs.declared.input.TheConstants.{LIMIT}
+use Rattle.mission_run.specs.declared.limit.TheConstants.{LIMIT}
 use Rattle.mission_run.specs.declared.status.Status.{Status}
 use Rattle.mission_run.specs.declared.status.Status.TheVariants.{Done, Usage, BadMission, TooLong, ReadFault, WriteFault, TooManyDisturbed, NoMemory}
 use Rattle.mission_run.specs.Lines.{mission_line, long_line, read_line}
-use Rattle.mission_run.specs.Stream.{SourceView}
+use Rattle.guards_io.specs.Stream.{SourceView}
 
 -- The bytes were taken, and no fault came.
 abbrev pub Takes : SourceView → SourceView → List ℕ → Type 0

@@ -45,7 +45,7 @@ pub fn mission_line(alloc: Global, why: &Why) -> Result<String, AllocError>
 pub fn usage_line() -> &'static str
     ensures { result.now ≡ usage_line }
 {
-    "usage: guards run [--trace] | check | demo N\n"
+    "usage: guards run [--trace] [--last K] | check | demo N\n"
 }
 
 /// The line of a source that failed.

@@ -2,14 +2,14 @@
 ghost use Rattle.check_text.specs.Check.{check_of};
 ghost use Rattle.ideal_run.specs.Writes.{SinkView, Writes, sink_view};
 ghost use Rattle.mission_run.specs.Reading.{ReadsMission, RefusesMission, Tells, ChecksBytes, CompletesCheck};
-ghost use Rattle.mission_run.specs.Stream.{source_view};
+ghost use Rattle.guards_io.specs.Stream.{source_view};
 ghost use Rattle.std.specs.Prelude.{List, ℕ};
 
 use crate::check::write_check;
-use crate::input::{ReadStop, read_all};
+use crate::limit::LIMIT;
 use crate::lines::{long_line, mission_line, read_line};
 use crate::status::Status;
-use guards_io::{Sink, Source};
+use guards_io::{ReadStop, Sink, Source, read_all};
 use ideal_run::WriteStop;
 use mission_checks::ReadFault;
 use mission_text::read;
@@ -46,7 +46,7 @@ pub fn read_mission<S: Source, K: Sink>(
         (sink_view (K.written out.old) (K.faults out.old))
         (sink_view (K.written out.new) (K.faults out.new)) result }
 {
-    let bytes = match read_all(alloc, src) {
+    let bytes = match read_all(alloc, src, LIMIT) {
         Ok(bytes) => bytes,
         Err(ReadStop::Failed) => {
             refuse(out, read_line());

@@ -1,5 +1,5 @@
 -- What was read of each key makes a mission.
-use Rattle.std.proofs.Common.{◌≡◌, ℕ, ◌≤◌, List, length, true, refl, arith}
+use Rattle.std.proofs.Common.{◌≡◌, ℕ, ◌≤◌, List, length, true, None, refl, arith}
 use Rattle.std.specs.List.{list_all}
 use Rattle.std.specs.Prelude.{IsTrue, ◌&&◌, nat_lt, ℤ}
 use Rattle.guards_base.specs.Masks.{both}
@@ -25,10 +25,10 @@ pub made : (core : CoreFields) (initial : ContextValue) (table : TableValue) (ou
     → IsTrue (within 1 8 (length outputs) && list_all (λ o. nat_lt o.0 core.sizes.blocks && nat_lt o.1 8) outputs)
     → IsTrue (is_sensors core.sizes.channels core.sizes.width (in_use core.sizes.width sensors) && list_all (is_row_of_places core.sizes.width) sensors)
     → FitsSizes core.sizes.channels core.sizes.cycles core.sizes.blocks script
-    → AreParts (mission_with (rules_of core) core.sizes.cycles core.sizes.width core.limits.return_after initial table outputs sensors script) table sensors
+    → AreParts (mission_with (rules_of core) core.sizes.cycles core.sizes.width core.limits.return_after initial table outputs sensors script None) table sensors None
 made core initial table outputs sensors script rules cycles width return_after context blocks inputs rows words whole fits =
     let parts = both (is_sensors core.sizes.channels core.sizes.width (in_use core.sizes.width sensors)) (list_all (is_row_of_places core.sizes.width) sensors) whole in
-    let M : MissionValue = mission_with (rules_of core) core.sizes.cycles core.sizes.width core.limits.return_after initial table outputs sensors script in
+    let M : MissionValue = mission_with (rules_of core) core.sizes.cycles core.sizes.width core.limits.return_after initial table outputs sensors script None in
     let mission : IsMission M =
     record {
       rules = rules;
@@ -40,5 +40,6 @@ made core initial table outputs sensors script rules cycles width return_after c
       outputs = words;
       sensors = parts.0;
       script = fits M refl refl refl;
+      actuator = refl;
     } in
-    record { mission = mission; blocks = blocks; inputs = inputs; zeros = rows_back core.sizes.width sensors parts.1 }
+    record { mission = mission; blocks = blocks; inputs = inputs; zeros = rows_back core.sizes.width sensors parts.1; forward = tt }

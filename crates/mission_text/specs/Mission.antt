@@ -1,5 +1,5 @@
 -- The mission that bytes stand for, or the first check that fails.
-use Rattle.std.specs.Prelude.{ℕ, List, [], ◌∷◌, codes, Ok}
+use Rattle.std.specs.Prelude.{ℕ, List, [], ◌∷◌, codes, None, Ok}
 use Rattle.toml.specs.Data.{Members}
 use Rattle.guards_model.specs.Missions.{MissionValue}
 use Rattle.fault_text.specs.FaultTexts.{script_field}
@@ -33,6 +33,7 @@ mission_after core fields = do
     outputs = outputs;
     sensors = sensors;
     script = script;
+    actuator = None;
   })
 
 -- the mission of a document, key by key

@@ -54,6 +54,7 @@ fn mission_after(alloc: Global, fields: &Table, core: CoreFields) -> Result<Miss
         outputs,
         sensors,
         script,
+        actuator: None,
     })
 }
 

@@ -3,4 +3,4 @@
 
 mod mission;
 
-pub use mission::{Mission, Outputs, SensorRow, SensorRows};
+pub use mission::{Actuator, Mission, Outputs, SensorRow, SensorRows};

@@ -4,7 +4,7 @@ ghost use Rattle.std.specs.Prelude.{◌≡◌, ◌<◌, length, IfOk};
 ghost use Rattle.guards_base.specs.Padding.{padded};
 ghost use Rattle.guards_model.specs.Contexts.{word_at};
 ghost use Rattle.guards_model.specs.Missions.{IsMission, sensor, output_words};
-ghost use Rattle.mission_type.specs.Parts.{IsSized};
+ghost use Rattle.mission_type.specs.Parts.{DrivesForward, IsSized, actuator_of};
 
 use context_blocks::Context;
 use fault_script::Script;
@@ -21,6 +21,14 @@ pub type SensorRow = Sequence<[i64; 4]>;
 
 /// The rows of sensor words, which take turns by cycles.
 pub type SensorRows = Sequence<SensorRow>;
+
+/// What is driven by the output words: for each output a step, at least 0, by which its word moves at most in a cycle,
+/// and its first word.
+#[derive(Clone, Copy, Debug, PartialEq, Eq)]
+pub struct Actuator {
+    pub steps: [i64; 8],
+    pub start: [i64; 8],
+}
 
 /// What a run is made of. Contracts see the plain mission of `guards_model`.
 #[derive(Drop)]
@@ -39,6 +47,8 @@ pub struct Mission {
     pub sensors: SensorRows,
     /// The faults to come.
     pub script: Script,
+    /// What the output words drive, if they drive anything.
+    pub actuator: Option<Actuator>,
 }
 
 impl Model for Mission {
@@ -50,10 +60,10 @@ impl Model for Mission {
 
     ghost coded = { coded_mission };
 
-    ghost view = { λ m. mission_with m.rules m.cycles m.width m.return_after m.initial m.table m.outputs.items m.sensors.items m.script };
+    ghost view = { λ m. mission_with m.rules m.cycles m.width m.return_after m.initial m.table m.outputs.items m.sensors.items m.script m.actuator };
 
     // How the parts fit together.
-    ghost invariant = { λ m. AreParts (mission_with m.rules m.cycles m.width m.return_after m.initial m.table m.outputs.items m.sensors.items m.script) m.table m.sensors.items };
+    ghost invariant = { λ m. AreParts (mission_with m.rules m.cycles m.width m.return_after m.initial m.table m.outputs.items m.sensors.items m.script m.actuator) m.table m.sensors.items m.actuator };
 }
 
 /// The word of a block of the context.
@@ -121,6 +131,14 @@ impl Mission {
         ensures { result.now ≡ self.now.script }
     {
         &self.script
+    }
+
+    /// The actuator, if there is one. Its places past the outputs mean nothing.
+    pub fn actuator(&self) -> Option<Actuator>
+        ensures value { actuator_of (length self.now.outputs) result ≡ self.now.actuator }
+        ensures forward { DrivesForward result }
+    {
+        self.actuator
     }
 
     /// Lends the table, which is made for the mission's contexts and inputs.

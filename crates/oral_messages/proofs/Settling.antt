@@ -1,6 +1,6 @@
 -- Equal words, and the walk that settles.
 use Rattle.std.proofs.Common.{◌≡◌, ℕ, suc, ◌*◌, Bool, true, false, ◌==◌, ◌+◌, ◌/◌, ◌<◌, ◌≤◌, List, ◌∷◌, length, drop, get_or, Option, Some, cond, refl, sym, ap, ◌∙◌, arith, eq-eqb, drop-cons}
-use Rattle.std.specs.Prelude.{count_by, find, nat_lt, option_and_then, bytes_eq}
+use Rattle.std.specs.Prelude.{count_by, find, nat_lt, option_and_then, bytes_eq, MatchBool}
 use Rattle.std.specs.Option.{option_eq}
 use Rattle.std.proofs.lemmas.Bool.{eqb-true, leb-true, le-leb}
 use Rattle.guards_model.specs.Frames.{SourceValue}
@@ -12,6 +12,15 @@ use Rattle.guards_model.specs.Channels.{mask, set_of_mask}
 abbrev pub settled_among : List (Option SourceValue) → List (Option SourceValue) → Option SourceValue
 settled_among values rest =
     option_and_then (λ v. v) (find (λ v. nat_lt (length values) (2 * count_by (option_eq same_source_word v) values)) rest)
+
+-- what a test says where it holds, and where it does not
+pub more : (P Q : Type 0) (b : Bool) → b ≡ true → MatchBool b P Q → P
+more P Q true e h = h
+more P Q false e h = absurd (let z : false ≡ true = e in cc)
+
+pub few : (P Q : Type 0) (b : Bool) → b ≡ false → MatchBool b P Q → Q
+few P Q false e h = h
+few P Q true e h = absurd (let z : true ≡ false = e in cc)
 
 -- sets with one mask are equal
 pub same_masks : (a b : List ℕ) (m n : ℕ) → m ≡ mask a → n ≡ mask b → a ≡ set_of_mask m → b ≡ set_of_mask n → (m == n) ≡ bytes_eq a b

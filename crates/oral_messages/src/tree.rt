@@ -107,27 +107,25 @@ fn clear(values: &mut Vec<Option<SourceWord>>, count: usize)
     }
 }
 
-/// A word of another width is missing.
-fn fitting(width: u8, word: &Option<SourceWord>) -> Option<SourceWord>
-    ensures { result ≡ option_and_then (of_width width) word.now }
+/// The word that an item has for its path; one of another width is missing, and then the missing value is lent.
+fn word_for<'a>(
+    width: u8,
+    item: &'a Item,
+    missing: &'a Option<SourceWord>,
+) -> &'a Option<SourceWord>
+    requires { missing.now ≡ None }
+    ensures { result.now ≡ option_and_then (of_width width) item.now.word }
 {
-    match word {
+    match &item.word {
         Some(word) => {
             if word.in_use().len() == usize::from(width) {
-                Some(*word)
+                &item.word
             } else {
-                None
+                missing
             }
         }
-        None => None,
+        None => missing,
     }
-}
-
-/// The word that an item has for its path, where it has this width.
-fn word_for(width: u8, item: &Item) -> Option<SourceWord>
-    ensures { result ≡ option_and_then (of_width width) item.now.word }
-{
-    fitting(width, &item.word)
 }
 
 /// A label of a path, the source first.
@@ -289,20 +287,21 @@ impl Tree {
         ensures same { IsSameMember self.new self.old }
         ensures kept { (received : Received) (rest : List ItemValue) → Holds self.old (with_items received round from rest) → Holds self.new (with_items received round from (item.now ∷ rest)) }
     {
-        let word = word_for(self.width, item);
+        let missing = None;
+        let word = word_for(self.width, item, &missing);
         if round == 1 {
-            self.keep_first(from, &word);
+            self.keep_first(from, word);
         } else if round == 2 {
             let a = label_at(item, 0);
             if self.members.has(a) {
-                self.keep_second(a, from, &word);
+                self.keep_second(a, from, word);
             }
         } else {
             let a = label_at(item, 0);
             let b = label_at(item, 1);
             if self.members.has(a) {
                 if self.members.has(b) {
-                    self.keep_third(a, b, from, &word);
+                    self.keep_third(a, b, from, word);
                 }
             }
         }

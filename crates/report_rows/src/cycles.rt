@@ -1,4 +1,6 @@
 //! The records that the tests write.
+ghost use Rattle.std.specs.Prelude.{◌<◌, All};
+
 use guards_base::{Bytes, Chan, ChanSet, ChannelLine, CycleRecord, Lines, TraceLine, Traces};
 use std::alloc::{AllocError, Global};
 
@@ -41,6 +43,16 @@ pub fn quiet_cycle(alloc: Global, cycle: u32, vote: i64) -> Result<CycleRecord, 
     })
 }
 
+// The round of a channel that made these steps.
+fn round(alloc: Global, number: u8, steps: &[u8]) -> Result<TraceLine, AllocError>
+    requires { All (λ s. s < 2) steps.now }
+{
+    Ok(TraceLine {
+        chan: chan(number),
+        steps: Bytes::from_slice(alloc, steps)?,
+    })
+}
+
 /// A cycle with negative words, votes without a word, two targets, and rounds with and without steps.
 pub fn busy_cycle(alloc: Global) -> Result<CycleRecord, AllocError> {
     let mut lines = Lines::new(alloc);
@@ -61,12 +73,8 @@ pub fn busy_cycle(alloc: Global) -> Result<CycleRecord, AllocError> {
         alphas: [65536, 0, 16777216, 0, 1, 0, 81919],
     })?;
     let mut traces = Traces::new(alloc);
-    for (number, steps) in [(0, &[0, 1, 1, 0][..]), (6, &[][..])] {
-        traces.push(TraceLine {
-            chan: chan(number),
-            steps: Bytes::from_slice(alloc, steps)?,
-        })?;
-    }
+    traces.push(round(alloc, 0, &[0, 1, 1, 0])?)?;
+    traces.push(round(alloc, 6, &[])?)?;
     Ok(CycleRecord {
         cycle: 4294967295,
         active: set(127),

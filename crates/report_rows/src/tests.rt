@@ -1,18 +1,35 @@
-use super::{busy_cycle, quiet_cycle, set};
+use crate::cycles::{busy_cycle, quiet_cycle, set};
 use guards_base::{Slot, Text};
 use report_text::{check_head, check_line, head, summary, write_cycle, write_end, write_stop};
+use std::alloc::{AllocError, Global};
 use std::test::Fail;
+
+// Appends a cycle in which nothing goes wrong. It alone owns the cycle, since each place where one may end costs the proof
+// seconds.
+fn push_quiet(
+    alloc: Global,
+    text: &mut Text,
+    cycle: u32,
+    vote: i64,
+    is_traced: bool,
+) -> Result<(), AllocError> {
+    let part = quiet_cycle(alloc, cycle, vote)?;
+    write_cycle(alloc, text, &part, 4, 1, 1, is_traced)
+}
+
+// Appends a run of two such cycles.
+fn push_run(alloc: Global, text: &mut Text) -> Result<(), AllocError> {
+    head(alloc, text, 4, 2)?;
+    push_quiet(alloc, text, 0, 5, false)?;
+    push_quiet(alloc, text, 1, 10, true)?;
+    write_end(alloc, text, 2)
+}
 
 #[test]
 fn a_quiet_run_is_written_line_by_line(rt: HostRuntime) -> Result<(), Fail> {
     let alloc = rt.alloc();
     let mut text = Text::new(alloc);
-    head(alloc, &mut text, 4, 2)?;
-    let first = quiet_cycle(alloc, 0, 5)?;
-    write_cycle(alloc, &mut text, &first, 4, 1, 1, false)?;
-    let second = quiet_cycle(alloc, 1, 10)?;
-    write_cycle(alloc, &mut text, &second, 4, 1, 1, true)?;
-    write_end(alloc, &mut text, 2)?;
+    push_run(alloc, &mut text)?;
     let wanted = "guards channels 4 cycles 2\n\
         cycle 0 active 0,1,2,3 transfer -\n\
         ch 0 in 5 vote 5 judged - alpha 0,0,0,0\n\

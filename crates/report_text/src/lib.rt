@@ -8,4 +8,5 @@ mod pieces;
 mod report;
 
 pub use check::{check_head, check_line, summary};
-pub use report::{head, write_cycle, write_end, write_stop};
+pub use lines::{channel_line, cycle_line, end_line, trace_line};
+pub use report::{head, write_cycle, write_end, write_out, write_stop};

@@ -1,11 +1,11 @@
 //! The report of a run.
-ghost use Rattle.std.specs.Prelude.{◌≡◌, ◌≤◌, ◌++◌, [], flat_map, if◌then◌else◌, IfOk, OnOk, OnErr, string_bytes};
+ghost use Rattle.std.specs.Prelude.{◌≡◌, ◌≤◌, ◌++◌, [], flat_map, take, if◌then◌else◌, IfOk, OnOk, OnErr, string_bytes};
 ghost use Rattle.guards_model.specs.Slots.{slot_text};
-ghost use Rattle.guards_model.specs.Texts.{head_line, trace_line, cycle_part, done_line, stop_line, part_text};
+ghost use Rattle.guards_model.specs.Texts.{head_line, trace_line, cycle_part, out_line, done_line, stop_line, part_text};
 ghost use Rattle.guards_model.specs.Records.{shown};
 
 use crate::lines::{channel_lines, cycle_line, end_line, trace_lines};
-use crate::pieces::set_text;
+use crate::pieces::{joined, set_text};
 use guards_base::{ChanSet, CycleRecord, Slot, Text, TraceLine};
 use std::alloc::{AllocError, Global};
 
@@ -76,6 +76,28 @@ pub fn write_cycle(
     ensures refused { OnErr result (text.new ≡ text.old) }
 {
     text.push_str(&cycle_text(alloc, part, channels, width, outputs, trace)?)
+}
+
+fn out_line(alloc: Global, words: &[i64]) -> Result<String, AllocError>
+    ensures { IfOk result (λ text. string_bytes text ≡ out_line words.now) }
+{
+    let words = joined(alloc, words)?;
+    format!(in alloc; "out {words}\n")
+}
+
+/// Appends the line of an actuator's words, which stands after the end line of a cycle's part. For want of memory the
+/// text is as it was.
+pub fn write_out(
+    alloc: Global,
+    text: &mut Text,
+    words: &[i64; 8],
+    outputs: u8,
+) -> Result<(), AllocError>
+    requires { outputs ≤ 8 }
+    ensures written { OnOk result (text.new ≡ text.old ++ out_line (take outputs words.now)) }
+    ensures refused { OnErr result (text.new ≡ text.old) }
+{
+    text.push_str(&out_line(alloc, &words[..usize::from(outputs)])?)
 }
 
 /// Appends the last line of a run that did not stop. For want of memory the text is as it was.

@@ -46,7 +46,7 @@ fn run_round<'a, C: Calls + Sync, G: Gate, R: Threads + Wait + Sync>(
 }
 
 /// Does a cycle's writes and copies by two workers under the lock, with a framer beside them that tries at most four
-/// times a copy and four times more. Whatever the order of the steps, they are all that are due, the context is the whole
+/// times a copy and four times more; where no copies are due, by this thread alone. Whatever the order of the steps, they are all that are due, the context is the whole
 /// row's effect, and the copies are the replay of just these steps. For want of memory the context comes back as it was.
 pub fn work_round<'a, C: Calls + Sync, G: Gate, R: Threads + Wait + Sync>(
     rt: &R,
@@ -73,7 +73,8 @@ pub fn work_round<'a, C: Calls + Sync, G: Gate, R: Threads + Wait + Sync>(
         return Err(Refused { value: ctx });
     };
     let round = Round::begin(alloc, ctx, table, natives, cycle, inputs, plan, feed)?;
-    let crew = Crew::new(alloc, chan, framer, 4 * (planned + 1));
+    let tries = if planned == 0 { 0 } else { 4 * (planned + 1) };
+    let crew = Crew::new(alloc, chan, framer, tries);
     let (ended, refused) = run_round(rt, round, crew, gate);
     match ended {
         Some((finished, crew)) => {

@@ -1,19 +1,20 @@
 -- What the cycles of a run leave on the bus, and the text that tells them. This project's own.
-use Rattle.std.specs.Prelude.{◌≡◌, ◌≤◌, ◌<◌, ℕ, Bool, true, false, List, [], ◌∷◌, ◌++◌, length, take, replicate, suc, Some, None, Result, Ok, Err}
+use Rattle.std.specs.Prelude.{◌≡◌, ◌≤◌, ◌<◌, ℕ, Bool, true, false, List, [], ◌∷◌, ◌++◌, length, map, flat_map, take, replicate, suc, Some, None, Result, Ok, Err}
 use Rattle.std.specs.List.{AllZip, AllByRecursion}
+use Rattle.circular_buffer.specs.Buffer.{keep_last}
 use Rattle.guards_model.specs.declared.Slot.TheVariants.{Tasks}
 use Rattle.guards_model.specs.Slots.{slot_index}
 use Rattle.guards_model.specs.Missions.{MissionValue, bus_rules}
 use Rattle.guards_model.specs.BusRules.{RuleValue}
-use Rattle.guards_model.specs.Network.{EntryValue, Log}
+use Rattle.guards_model.specs.Network.{EntryValue, Log, without_outputs}
 use Rattle.guards_model.specs.Rounds.{Steps, Histories, steps_of}
 use Rattle.guards_model.specs.Records.{shown}
-use Rattle.guards_model.specs.Texts.{TextValue, Part, RecordValue, StopValue, head_line}
+use Rattle.guards_model.specs.Texts.{TextValue, Part, RecordValue, StopValue, head_line, part_text, text_of}
 use Rattle.guards_runs.specs.Cycles.{Past, cycles_before, cycle_at}
 use Rattle.guards_runs.specs.Disturbed.{stop_in, stop_of}
 use Rattle.guards_runs.specs.Due.{IsDue, IsMadeBy, AreMadeBy, cycle_carries, carries_through}
 use Rattle.guards_runs.specs.Soundness.{IsSound}
-use Rattle.guards_runs.specs.Report.{cycle_record, latest_steps, earlier_steps, cycle_parts, report, traced}
+use Rattle.guards_runs.specs.Report.{cycle_record, latest_steps, earlier_steps, cycle_parts, report, report_parts, traced, traced_parts}
 use Rattle.guards_world.specs.Worlds.{WorldValue, HaltValue, disturbed, no_memory, StandsForWorld}
 use Rattle.guards_world.specs.WorldCycle.{BusValue, AreFull}
 use Rattle.cycle_laws.specs.Fronts.{IsUpToStop}
@@ -74,29 +75,33 @@ pub record RanPart (M : MissionValue) (n : ℕ) (L : Log) (histories : Histories
   pub unstopped : stop_of (cycles_before M L n) ≡ None
   pub sound : IsSound M L n
 
--- Between two cycles of a run that began with this bus: what the log grew by stands for the world.
+-- Between two cycles of a run that began with this bus: what the log grew by, F, stands for the world without its output
+-- entries. L is that list.
 pub record IsBetween (may : List RuleValue → EntryValue → Type 0) (M : MissionValue) (start : BusValue) (w : WorldValue) (bus : BusValue)
-    (L : Log) (histories : Histories) : Type 0 where
+    (F L : Log) (histories : Histories) : Type 0 where
   pub mission : w.mission ≡ M
   pub unspent : w.spent ≡ None
-  pub ran : Ran may M start bus L
+  pub ran : Ran may M start bus F
+  pub apart : without_outputs F ≡ L
   pub stands : StandsForWorld w L
   pub beside : length histories ≡ w.done
   pub due : AreDueBy M histories (cycles_before M L w.done) L
 
 -- What the next cycle of a run does, by its answer: the run goes on by the cycle and its record tells it, the cycle stops
 -- the run, or it breaks the run off. The facts of the earlier cycles stay.
-abbrev pub PassesOn : (List RuleValue → EntryValue → Type 0) → MissionValue → BusValue → WorldValue → Log → Histories →
+abbrev pub PassesOn : (List RuleValue → EntryValue → Type 0) → MissionValue → BusValue → WorldValue → Log → Log → Histories →
     Result RecordValue HaltValue → WorldValue → BusValue → Type 0
-PassesOn may M start w L histories (Ok part) new bus =
-    (now : Log) × (steps : Steps) × IsBetween may M start new bus (L ++ now) (steps ∷ histories) × (new.done ≡ suc w.done)
+PassesOn may M start w F L histories (Ok part) new bus =
+    (now : Log) × (steps : Steps) × IsBetween may M start new bus (F ++ now) (L ++ now) (steps ∷ histories) × (new.done ≡ suc w.done)
+    × AreMadeBy M steps (cycles_before M (L ++ now) w.done) (cycle_at M (L ++ now) w.done) now
+    × AreFull M (cycles_before M (L ++ now) w.done) (cycle_at M (L ++ now) w.done) steps
     × (cycles_before M (L ++ now) w.done ≡ cycles_before M L w.done)
     × (shown M.rules.channels M.width (length M.outputs) part ≡ cycle_record M steps w.done (cycle_at M (L ++ now) w.done))
-PassesOn may M start w L histories (Err (disturbed stop)) new bus =
-    (now : Log) × Ran may M start bus (L ++ now) × RanToStop M w.done stop (L ++ now) histories
+PassesOn may M start w F L histories (Err (disturbed stop)) new bus =
+    (now : Log) × Ran may M start bus (F ++ now) × RanToStop M w.done stop (L ++ now) histories
     × (cycles_before M (L ++ now) w.done ≡ cycles_before M L w.done)
-PassesOn may M start w L histories (Err no_memory) new bus =
-    (now : Log) × Ran may M start bus (L ++ now) × RanPart M w.done (L ++ now) histories
+PassesOn may M start w F L histories (Err no_memory) new bus =
+    (now : Log) × Ran may M start bus (F ++ now) × RanPart M w.done (L ++ now) histories
     × (cycles_before M (L ++ now) w.done ≡ cycles_before M L w.done)
 
 -- ---- as a text
@@ -109,6 +114,28 @@ parts_so_far trace M histories cycles = (head_line M.rules.channels M.cycles ∷
 abbrev pub run_text : Bool → MissionValue → Log → Histories → TextValue
 run_text false M L histories = report M L
 run_text true M L histories = traced M L histories
+
+-- its parts: the head line, the part of each cycle, and the last line
+abbrev pub run_text_parts : Bool → MissionValue → Log → Histories → List Part
+run_text_parts false M L histories = report_parts M L
+run_text_parts true M L histories = traced_parts M L histories
+
+-- of such parts the first one, the last k of the cycles' parts, or all where they are fewer, and the last line
+abbrev pub shortened : ℕ → List Part → List Part
+shortened k [] = []
+shortened k (first ∷ rest) = first ∷ keep_last (suc k) rest
+
+-- the short text of a run up to its first stop, with only the last k of its cycles' parts
+abbrev pub short_text : ℕ → Bool → MissionValue → Log → Histories → TextValue
+short_text k trace M L histories = text_of (shortened k (run_text_parts trace M L histories))
+
+-- the texts of the last k parts of some cycles, or of all where they are fewer
+abbrev pub last_texts : ℕ → Bool → MissionValue → Histories → Past → List TextValue
+last_texts k trace M histories cycles = keep_last k (map part_text (cycle_parts trace M histories cycles))
+
+-- the head line and these texts
+abbrev pub with_head : MissionValue → List TextValue → TextValue
+with_head M texts = head_line M.rules.channels M.cycles ++ flat_map (λ text. text) texts
 
 -- the histories of the cycles before a stop, beside those and so many cycles that did not finish
 abbrev pub with_unfinished : ℕ → Histories → Histories

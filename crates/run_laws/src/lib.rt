@@ -4,37 +4,44 @@
 
 ghost use Rattle.std.specs.Prelude.{◌≡◌, ◌<◌, ◌-◌, ◌++◌, ◌∷◌, [], ℕ, Bool, None, Some, Result};
 ghost use Rattle.guards_model.specs.Missions.{MissionValue, IsMission, bus_rules};
-ghost use Rattle.guards_model.specs.Network.{Log};
+ghost use Rattle.guards_model.specs.Network.{Log, without_outputs};
 ghost use Rattle.guards_model.specs.Rounds.{Histories};
 ghost use Rattle.guards_model.specs.Texts.{RecordValue, StopValue, text_of, done_line, stop_line};
 ghost use Rattle.guards_runs.specs.Cycles.{cycles_before, cycle_at};
 ghost use Rattle.guards_runs.specs.Disturbed.{stop_in, stop_of};
 ghost use Rattle.guards_world.specs.Worlds.{WorldValue, HaltValue, first_world};
-ghost use Rattle.guards_world.specs.WorldCycle.{BusValue, CycleOf};
+ghost use Rattle.guards_world.specs.WorldCycle.{BusValue, Carries, CycleOf};
 ghost use Rattle.cycle_laws.specs.Fronts.{CarriesUpToStop};
-ghost use Rattle.run_laws.specs.Runs.{IsBetween, PassesOn, RanCycles, RanToStop, RanPart, parts_so_far, run_text, with_unfinished};
+ghost use Rattle.run_laws.specs.Runs.{IsBetween, PassesOn, RanCycles, RanToStop, RanPart, last_texts, parts_so_far, run_text, short_text, with_head, with_unfinished};
 
 use icn_bus::Bus;
 
 /// A run begins with the first world of a mission, over a bus that has the mission's rules.
 pub fn runs_begin<B: Bus>()
     ensures { (M : MissionValue) (bus : BusValue) → IsMission M → bus.script ≡ bus_rules M →
-        IsBetween B.may M bus (first_world M) bus [] [] }
+        IsBetween B.may M bus (first_world M) bus [] [] [] }
 {}
 
 /// A cycle of the world goes on with the run, stops it, or breaks it off; where memory runs out, nothing was carried after a slot
 /// that stops the run.
 pub fn cycles_pass_on<B: Bus>()
-    ensures { (M : MissionValue) (start bus : BusValue) (w : WorldValue) (L : Log)
+    ensures { (M : MissionValue) (start bus : BusValue) (w : WorldValue) (F L : Log)
         (histories : Histories) (result : Result RecordValue HaltValue) (new : WorldValue) (after : BusValue) →
-        IsBetween B.may M start w bus L histories → w.done < w.mission.cycles → CycleOf B.may w.spent w bus result new after →
-        CarriesUpToStop w bus result after → PassesOn B.may M start w L histories result new after }
+        IsBetween B.may M start w bus F L histories → w.done < w.mission.cycles → CycleOf B.may w.spent w bus result new after →
+        CarriesUpToStop w bus result after → PassesOn B.may M start w F L histories result new after }
+{}
+
+/// Output entries leave a run where it is.
+pub fn outputs_leave<B: Bus>()
+    ensures { (M : MissionValue) (start : BusValue) (w : WorldValue) (bus after : BusValue) (F L outs : Log) (histories : Histories) →
+        IsBetween B.may M start w bus F L histories → Carries B.may bus after outs → without_outputs outs ≡ [] →
+        IsBetween B.may M start w after (F ++ outs) L histories }
 {}
 
 /// Between two cycles, those so far ran; and a run that stopped is one that broke off.
 pub fn cycles_ran<B: Bus>()
-    ensures whole { (M : MissionValue) (start bus : BusValue) (w : WorldValue) (L : Log)
-        (histories : Histories) → IsBetween B.may M start w bus L histories → RanCycles M w.done L histories }
+    ensures whole { (M : MissionValue) (start bus : BusValue) (w : WorldValue) (F L : Log)
+        (histories : Histories) → IsBetween B.may M start w bus F L histories → RanCycles M w.done L histories }
     ensures stopped { (M : MissionValue) (n : ℕ) (stop : StopValue) (L : Log) (histories : Histories) →
         RanToStop M n stop L histories → RanPart M n L histories }
 {}
@@ -48,4 +55,16 @@ pub fn runs_are_told()
         stop_of (cycles_before M L n) ≡ None → stop_in n (cycle_at M L n) ≡ Some stop →
         run_text trace M L (with_unfinished (M.cycles - n) histories)
         ≡ text_of (parts_so_far trace M histories (cycles_before M L n)) ++ stop_line stop }
+{}
+
+/// The short text of a run that stopped nowhere is the head line, the parts of its last k cycles and the last line; where it
+/// stopped, it is the head line, the parts of the last k cycles before, and the line of the stop.
+pub fn short_runs_are_told()
+    ensures whole { (k : ℕ) (trace : Bool) (M : MissionValue) (L : Log) (histories : Histories) → stop_of (cycles_before M L M.cycles) ≡ None →
+        short_text k trace M L histories
+        ≡ with_head M (last_texts k trace M histories (cycles_before M L M.cycles)) ++ done_line M.cycles }
+    ensures stopped { (k : ℕ) (trace : Bool) (M : MissionValue) (L : Log) (histories : Histories) (n : ℕ) (stop : StopValue) → n < M.cycles →
+        stop_of (cycles_before M L n) ≡ None → stop_in n (cycle_at M L n) ≡ Some stop →
+        short_text k trace M L (with_unfinished (M.cycles - n) histories)
+        ≡ with_head M (last_texts k trace M histories (cycles_before M L n)) ++ stop_line stop }
 {}

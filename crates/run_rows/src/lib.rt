@@ -1,78 +1,12 @@
 //! Worked missions and small calls over sources, sinks and buses in memory, as tests on the call `guards`.
 #![tactic(auto)]
 
-ghost use Rattle.std.specs.Prelude.{◌≡◌};
-ghost use Rattle.guards_model.specs.declared.Code.TheVariants as codes;
-ghost use Rattle.guards_model.specs.Natives.{native};
-
-use ctx_lock::OpenGate;
-use guards_base::Words;
-use guards_io::{MemSink, MemSource};
-use icn_bus::ScriptBus;
-use mission_run::{Status, guards};
-use native_calls::{Code, Native, Natives, Operation, middle, ramp, saturated};
-use std::alloc::Global;
-use std::sync::Wait;
-use std::thread::Threads;
-
-/// Does what the words say over a scripted bus, with the open gate and the operations of the task language.
-pub fn answer<R: Threads + Wait + Sync>(
-    rt: &R,
-    alloc: Global,
-    words: &Words,
-    src: &mut MemSource,
-    out: &mut MemSink,
-    bus: &mut ScriptBus,
-) -> Status {
-    answer_by(
-        rt,
-        alloc,
-        words,
-        src,
-        out,
-        bus,
-        |a: i64, b: i64, c: i64| -> i64
-            ensures { result ≡ native Code.Sat a b c }
-        { saturated(a, b, c) },
-        |a: i64, b: i64, c: i64| -> i64
-            ensures { result ≡ native Code.Mid a b c }
-        { middle(a, b, c) },
-        |a: i64, b: i64, c: i64| -> i64
-            ensures { result ≡ native Code.Ramp a b c }
-        { ramp(a, b, c) },
-    )
-}
-
-/// Keeps the closures beside their facts.
-fn answer_by<
-    R: Threads + Wait + Sync,
-    X: Operation + Sync,
-    Y: Operation + Sync,
-    Z: Operation + Sync,
->(
-    rt: &R,
-    alloc: Global,
-    words: &Words,
-    src: &mut MemSource,
-    out: &mut MemSink,
-    bus: &mut ScriptBus,
-    sat: X,
-    mid: Y,
-    ramp: Z,
-) -> Status
-    requires sat { X.computes codes.Sat sat }
-    requires mid { Y.computes codes.Mid mid }
-    requires ramp { Z.computes codes.Ramp ramp }
-{
-    let sat = Native::new(Code::Sat, sat);
-    let mid = Native::new(Code::Mid, mid);
-    let ramp = Native::new(Code::Ramp, ramp);
-    let natives = Natives::new(sat, mid, ramp);
-    guards(rt, alloc, words, src, out, bus, &OpenGate, &natives)
-}
-
+#[cfg(test)]
+mod answer;
 #[cfg(test)]
 mod cases;
+#[cfg(test)]
+mod lasts;
 #[cfg(test)]
 mod reports;
 #[cfg(test)]

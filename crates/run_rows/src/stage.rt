@@ -1,5 +1,5 @@
 //! Calls of the program over a source, a sink and a bus in memory.
-use crate::answer;
+use crate::answer::answer;
 use guards_base::{Bytes, Numbers, Text, Words};
 use guards_io::{MemSink, MemSource};
 use icn_bus::ScriptBus;

@@ -102,23 +102,61 @@ fn what_is_no_mission_is_refused(rt: HostRuntime) -> Result<(), Fail> {
     Ok(())
 }
 
+// The first line has no word.
+const NO_COMMANDS: &str = "
+fly
+help
+--help
+-h
+--version
+demo
+demo -1
+demo 18446744073709551616
+demo 100000000000000000000
+demo -- 1
+demo 1 1
+check --trace
+check --last 1
+run --
+run run
+run --trace=true
+run --trace --trace
+run --Trace
+run --last
+run --last 0
+run --last 0000
+run --last 2001
+run --last 9999
+run --last 00001
+run --last 02000
+run --last -1
+run --last +1
+run --last 1.
+run --last 0x1
+run --last one
+run --last=1
+run --last --trace
+run --last 1 1
+run --last 1 --last 1
+run --last 1 --trace --trace
+run --last 1 -- --trace
+run --trace --last
+run --trace --last 0
+run --trace --last 2001
+run --trace 1 --last
+run --last 0 --trace
+run --last 2001 --trace
+run --last --trace 1
+run -- --last 1
+run 1 --last
+--last 1 run
+--trace run
+demo --last 1
+";
+
 #[test]
 fn other_words_are_no_command(rt: HostRuntime) -> Result<(), Fail> {
-    for words in [
-        "",
-        "fly",
-        "help",
-        "--help",
-        "-h",
-        "demo",
-        "run --",
-        "run --trace=true",
-        "run --trace --trace",
-        "check --trace",
-        "demo -1",
-        "demo 18446744073709551616",
-        "demo -- 1",
-    ] {
+    for words in NO_COMMANDS.lines() {
         assert_eq!(rt;
             wrong_case(&rt, rt.alloc(), words, unknown())?,
             None,
@@ -136,6 +174,27 @@ fn sources_and_sinks_may_fail(rt: HostRuntime) -> Result<(), Fail> {
             None,
             "{}",
             case.text
+        );
+    }
+    Ok(())
+}
+
+// Also those that stop.
+#[test]
+fn few_cycles_are_all_told_as_the_last(rt: HostRuntime) -> Result<(), Fail> {
+    let alloc = rt.alloc();
+    for row in voting_rows::rows() {
+        if row.done > 5 {
+            continue;
+        }
+        let mission = row.mission(alloc)?;
+        let mut bus = ScriptBus::empty(alloc);
+        let ended = call_over(&rt, alloc, &smooth("run --last 5", &mission), &mut bus)?;
+        assert_eq!(rt;
+            mistake(alloc, row, &mission, &ended, bus.log())?,
+            None,
+            "{}",
+            row.name
         );
     }
     Ok(())

@@ -161,6 +161,10 @@ module _ (M : MissionValue) (L K : Log) (forges_none : ForgesNoSweep (bus_rules 
   pub facts_alike : HaveSameFacts (told_cycles (cycles_before M L M.cycles)) (told_cycles (cycles_before M K M.cycles))
   facts_alike = (alike M.cycles (omega arith)).facts
 
+  pub parts_alike : report_parts M L ≡ report_parts M K
+  unfolding report_parts
+  parts_alike = same_parts M (cycles_before M L M.cycles) (cycles_before M K M.cycles) (alike M.cycles (omega arith))
+
   pub reports_alike : report M L ≡ report M K
-  unfolding report report_parts
-  reports_alike = ap text_of (same_parts M (cycles_before M L M.cycles) (cycles_before M K M.cycles) (alike M.cycles (omega arith)))
+  unfolding report
+  reports_alike = ap text_of parts_alike

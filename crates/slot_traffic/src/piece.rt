@@ -1,13 +1,14 @@
 //! The pieces of one frame: what was delivered to each receiver.
-ghost use Rattle.std.specs.Prelude.{◌≡◌, ◌≤◌, [], length, map, OnOk, OnErr, option_map};
+ghost use Rattle.std.specs.Prelude.{◌≡◌, ◌≤◌, [], bytes_eq, length, map, OnOk, OnErr};
 ghost use Rattle.std.specs.List.{AllByRecursion};
 ghost use Rattle.guards_model.specs.Frames.{FrameValue};
 ghost use Rattle.guards_runs.specs.Disturbed.{differs_from};
+ghost use Rattle.icn_bus.specs.Deliveries.{delivery_value};
 ghost use Rattle.slot_traffic.specs.Arrivals.{IsMarked, delivered_of, is_changed, piece_value};
 ghost use Rattle.slot_traffic.specs.Carried.{AreDelivered, AreSomeDelivered};
 
 use guards_base::{Bytes, Chan, Sequence, Slot};
-use icn_bus::Bus;
+use icn_bus::{Bus, Delivery};
 use icn_frames::Frame;
 use std::alloc::{AllocError, Global};
 
@@ -37,15 +38,30 @@ pub enum Reading {
     Other(Option<Frame>),
 }
 
-/// Compares what was delivered with what was sent.
-fn arrival_of(sent: &[u8], delivered: Option<Bytes>) -> Arrival
-    ensures delivered { delivered_of sent.now result ≡ option_map (λ piece. piece.items) delivered }
+/// Whether two pieces are equal: four bytes at a time.
+fn is_same(a: &[u8], b: &[u8]) -> bool
+    ensures { result ≡ bytes_eq a.now b.now }
+{
+    match (a, b) {
+        ([a0, a1, a2, a3, xs @ ..], [b0, b1, b2, b3, ys @ ..]) => {
+            *a0 == *b0 && *a1 == *b1 && *a2 == *b2 && *a3 == *b3 && is_same(xs, ys)
+        }
+        ([x, xs @ ..], [y, ys @ ..]) => *x == *y && is_same(xs, ys),
+        ([], []) => true,
+        _ => false,
+    }
+}
+
+/// Compares what was delivered with what was sent, where they may differ.
+fn arrival_of(sent: &[u8], delivered: Delivery) -> Arrival
+    ensures delivered { delivered_of sent.now result ≡ delivery_value sent.now delivered }
     ensures marked { is_changed result ≡ differs_from sent.now (delivered_of sent.now result) }
 {
     match delivered {
-        None => Arrival::Lost,
-        Some(piece) => {
-            if sent == piece.as_slice() {
+        Delivery::AsSent => Arrival::AsSent,
+        Delivery::Lost => Arrival::Lost,
+        Delivery::Other(piece) => {
+            if is_same(sent, piece.as_slice()) {
                 Arrival::AsSent
             } else {
                 Arrival::Changed(piece)
@@ -75,7 +91,7 @@ pub fn carry_to_each<B: Bus>(
     ensures marked { AllByRecursion (IsMarked sent.now) pieces.new.items }
 {
     for to in receivers {
-        let delivered = bus.carry(cycle, slot, from, *to, sent)?;
+        let delivered = bus.pass(cycle, slot, from, *to, sent)?;
         let arrival = arrival_of(sent, delivered);
         pieces.push_reserved(Piece { to: *to, arrival });
     }

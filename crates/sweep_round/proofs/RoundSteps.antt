@@ -7,6 +7,7 @@ use Rattle.guards_model.specs.declared.Actor.{Actor}
 use Rattle.guards_model.specs.declared.Actor.TheVariants.{Task, Sweep}
 use Rattle.guards_model.specs.Contexts.{BlockValue, ContextValue, zero_block, block_at}
 use Rattle.guards_model.specs.Frames.{CopyValue}
+use Rattle.guards_model.specs.Records.{actor_of_step, step_number}
 use Rattle.guards_model.specs.Tasks.{WriteValue, written, written_if, replaced, whole}
 use Rattle.guards_model.specs.Rounds.{Origin, is_task, is_sweep, context_at, copies_at, writes_before_from, context_of_replay, copies_of_replay, IsFull}
 use Rattle.ctx_lock.specs.History.{times}
@@ -27,6 +28,15 @@ times_sweep (Sweep ∷ h) = omega (arith, times_sweep h, sum_by-cons (λ x. cond
 -- one step more, written as a number
 pub actors_more : (steps : List ℕ) (step : ℕ) → actors_of (steps ++ step ∷ []) ≡ actors_of steps ++ actors_of (step ∷ [])
 actors_more steps step = map-append _ steps (step ∷ [])
+
+-- steps that are written by their numbers, with one more
+pub numbers_more : (steps : List ℕ) (step : ℕ) → step ≡ step_number (actor_of_step step) → steps ≡ map step_number (actors_of steps)
+    → steps ++ step ∷ [] ≡ map step_number (actors_of (steps ++ step ∷ []))
+numbers_more steps step one before =
+    ap (λ l. l ++ step ∷ []) before
+    ∙ ap (λ k. map step_number (actors_of steps) ++ k ∷ []) one
+    ∙ sym (map-append step_number (actors_of steps) (actors_of (step ∷ [])))
+    ∙ ap (map step_number) (sym (actors_more steps step))
 
 -- how many writes the steps have, after one more
 tasks_more : (h : List Actor) → count_by is_task (h ++ Task ∷ []) ≡ suc (count_by is_task h)

@@ -1,6 +1,7 @@
 //! What is left of a round that has ended.
 ghost use Rattle.std.specs.Prelude.{◌≡◌, map};
-ghost use Rattle.guards_model.specs.Records.{actor_of_step};
+ghost use Rattle.guards_model.specs.Records.{actor_of_step, step_number};
+ghost use Rattle.sweep_round.specs.Replay.{actors_of};
 
 use context_blocks::Context;
 use frame_pipe::Feed;
@@ -12,6 +13,7 @@ use guards_base::Bytes;
 pub struct Trail {
     pub(crate) cycle: u32,
     pub(crate) steps: Bytes,
+    ghost numbers: { steps.items ≡ map step_number (actors_of steps.items) },
 }
 
 impl Trail {
@@ -24,9 +26,10 @@ impl Trail {
         self.cycle
     }
 
-    /// The history of its round.
+    /// The history of its round, by the numbers of its steps.
     pub fn steps(&self) -> &Bytes
-        ensures { map actor_of_step result.now.items ≡ trail_steps self.now }
+        ensures numbers { result.now.items ≡ map step_number (trail_steps self.now) }
+        ensures steps { map actor_of_step result.now.items ≡ trail_steps self.now }
     {
         &self.steps
     }

@@ -1,6 +1,7 @@
 //! A round, step by step.
-ghost use Rattle.std.specs.Prelude.{◌≡◌, ◌+◌, ◌^◌, ◌<◌, ◌≤◌, [], ◌∷◌, ◌++◌, length, All, MatchBool, IfOk, IfErr};
+ghost use Rattle.std.specs.Prelude.{◌≡◌, ◌+◌, ◌^◌, ◌<◌, ◌≤◌, [], ◌∷◌, ◌++◌, length, map, All, MatchBool, IfOk, IfErr};
 ghost use Rattle.guards_model.specs.declared.Actor.TheVariants.{Task, Sweep};
+ghost use Rattle.guards_model.specs.Records.{step_number};
 ghost use Rattle.ctx_lock.specs.History.{times};
 ghost use Rattle.task_table.specs.Tables.{table_writes};
 ghost use Rattle.sweep_round.specs.Replay.{origin_of, actors_of, IsReplay, AreMade};
@@ -38,6 +39,7 @@ pub struct Round<'a, C: Calls> {
     ghost few: { (length (table_writes table.now cycle) < 2 ^ 32) × (length plan < 2 ^ 32) },
     ghost replay: { IsReplay (origin_of start table.now cycle inputs plan) (actors_of history.items) context feed.producer.end.past },
     ghost made: { AreMade (origin_of start table.now cycle inputs plan) (actors_of history.items) writes copies },
+    ghost numbers: { history.items ≡ map step_number (actors_of history.items) },
     ghost steps: { length history.items ≡ writes + copies },
     ghost room: { due + length plan ≤ length history.items + history.spare },
     ghost blocks: { (length context ≡ table.now.blocks) × (length start ≡ table.now.blocks) × All (λ b. b < table.now.blocks) plan },

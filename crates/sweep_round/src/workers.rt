@@ -13,15 +13,15 @@ use ctx_lock::{Closed, Gate, Pass, Shared, Turned};
 use frame_pipe::{Feed, Framer, gather};
 use guards_base::Refused;
 use icn_frames::Copies;
-use lock_workers::pair;
+use lock_workers::{in_turn, pair};
 use std::alloc::Global;
 use std::marker::Model;
 use std::sync::Wait;
-use std::thread::{Threads, join};
+use std::thread::{self, Threads, join};
 
 /// What the workers of a channel need beside the value: its number for the gate, where memory for the lock comes from, and
-/// the framer of a pipe, which tries so often to take a copy while they work, and never waits. Contracts see the name of
-/// the pipe.
+/// the framer of a pipe, which tries so often to take a copy while they work, and never waits. Where it is not to try at all,
+/// no copies are due, and the workers need no threads of their own. Contracts see the name of the pipe.
 #[derive(Drop)]
 pub struct Crew {
     alloc: Global,
@@ -75,6 +75,11 @@ impl Crew {
         gather(feed, framer)
     }
 
+    // Whether there is a copy to wait for.
+    fn is_idle(&self) -> bool {
+        self.tries == 0
+    }
+
     fn try_all(self) -> Crew
         ensures { result ≡ self }
     {
@@ -93,18 +98,21 @@ impl Crew {
     }
 }
 
-// Tries so often to take a copy.
+// Tries so often to take a copy. Where there is none, the processor goes to whoever is ready to run.
 fn try_often(mut framer: Framer, tries: usize) -> Framer
     ensures { framer_name result ≡ framer_name framer }
 {
     for _ in 0..tries {
-        framer.take();
+        if !framer.take() {
+            thread::yield_now();
+        }
     }
     framer
 }
 
-/// Two workers side by side make all steps that are due, and beside them a framer tries to take copies. The
-/// value comes closed, with the framer; for want of memory the value comes back as it was.
+/// Two workers side by side make all steps that are due, and beside them a framer tries to take copies; where it is not to
+/// try, this thread makes all the steps. The value comes closed, with the framer; for want of memory the value comes back as
+/// it was.
 pub fn work_beside<T: Turned, G: Gate, R: Threads + Wait + Sync>(
     rt: &R,
     value: T,
@@ -120,6 +128,10 @@ pub fn work_beside<T: Turned, G: Gate, R: Threads + Wait + Sync>(
 {
     let chan = crew.chan();
     let (shared, task, sweep) = Shared::begin(rt, crew.alloc(), value)?;
+    if crew.is_idle() {
+        let (task, sweep) = in_turn(rt, &shared, chan, task, sweep, gate);
+        return Ok((shared.close(task, sweep), crew));
+    }
     let ((task, sweep), crew) = join(
         rt,
         || -> (Pass<T>, Pass<T>)

@@ -384,3 +384,21 @@ rounds_carried M L now steps slot handed w inside =
     ∙ sym (append-nil now) in
     decides_under_way M (L ++ now) n Round3 inside.ranges inside.below refl
     (record { now = now; rest = []; entries = entries; due = due; unstopped = subst (λ m. halts m e Round3 ≡ false) (sym size) (inside.unhalted Round3 (omega arith)) })
+
+-- the entries of a cycle all of whose slots are carried
+pub all_carried : (M : MissionValue) (L now : Log) (steps : Steps) (slot : Slot) (handed : ℕ) (w : WorldValue) → InCycle M L now steps slot 9 handed w →
+    (cycle_at M (L ++ now) w.done).entries ≡ now
+all_carried M L now steps slot handed w inside =
+    let n = w.done in
+    let past = cycles_before M (L ++ now) n in
+    let e = next_cycle M (L ++ now) past in
+    let c = length past in
+    let size : c ≡ n = length-cycles_before M (L ++ now) n in
+    let due : AllZip (IsDue M past e) (carries_through c e Switch) now =
+    subst (λ m. AllZip (IsDue M past e) (carries_through m e Switch) now) (sym size)
+    (zip_map (λ carry entry. IsMadeBy M past e (steps_of steps carry.from) carry entry) (IsDue M past e) (carries_done n e 9) now (λ carry entry h. made_is_due M past e (steps_of steps carry.from) carry entry h) inside.current) in
+    let these : list_all (λ (x : EntryValue). x.cycle == c) now ≡ true = entries_cycle M past e c (carries_through c e Switch) now due (all_through c e Switch) in
+    entries_now M (L ++ now) past
+    ∙ filter-append (λ (x : EntryValue). x.cycle == c) L now
+    ∙ ap (λ es. es ++ entries_of c now) (entries_of-earlier c L (earlier_entries M past L inside.before))
+    ∙ entries_of-all c now these

@@ -56,6 +56,7 @@ first_stands M ranges =
       nodes = firsts M (channels_of M) (λ q h. h);
       ledger = refl;
       switches = refl;
+      settled = refl;
     }
 
 -- ---- what stands for a world is a run
@@ -124,4 +125,5 @@ world_goes_on M L now steps w inside =
       nodes = nodes_end M L now w.done steps inside.ranges inside.below run;
       ledger = refl;
       switches = refl;
+      settled = refl;
     }

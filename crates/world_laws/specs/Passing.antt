@@ -14,7 +14,7 @@ use Rattle.guards_runs.specs.Disturbed.{disturbed_channels, stop_in, stop_of}
 use Rattle.guards_runs.specs.Due.{Carry, IsDue, IsMadeBy, cycle_carries, carries_through}
 use Rattle.guards_world.specs.NodeFacts.{ledger_at, node_with, state_in}
 use Rattle.guards_world.specs.SlotSteps.{ended}
-use Rattle.guards_world.specs.Worlds.{WorldValue}
+use Rattle.guards_world.specs.Worlds.{WorldValue, settled_after}
 use Rattle.guards_world.specs.InCycle.{node_in, ledger_in}
 
 -- The nodes that are switched off rest, those that took a final content run, the ledger and the switches are those after
@@ -31,6 +31,7 @@ world_after M L now steps n carried =
       ledger = ledger_at M (e ∷ past);
       switches = active_set M (e ∷ past);
       spent = None;
+      settled = settled_after (e ∷ past);
     }
 
 -- ---- within a cycle

@@ -1,10 +1,12 @@
 -- The round that a node tells of, and a list from whose end one element is taken and put back.
-use Rattle.std.proofs.Common.{◌≡◌, List, [], ◌∷◌, ◌++◌, Option, Some, None, option_map, Result, Ok, Err, OnOk, refl, ap, ◌∙◌}
+use Rattle.std.proofs.Common.{◌≡◌, ℕ, ◌<◌, All, map, arith, List, [], ◌∷◌, ◌++◌, Option, Some, None, option_map, Result, Ok, Err, OnOk, refl, ap, ◌∙◌}
 use Rattle.std.specs.Prelude.{⊤, option_and_then}
 use Rattle.std.specs.List.{AllZip}
 use Rattle.std.specs.Result.{result_and}
-use Rattle.std.proofs.lemmas.List.Elements.{AllZip-push}
+use Rattle.std.proofs.lemmas.List.Elements.{AllZip-push, All-nil, All-cons}
 use Rattle.guards_model.specs.declared.Actor.{Actor}
+use Rattle.guards_model.specs.declared.Actor.TheVariants.{Task, Sweep}
+use Rattle.guards_model.specs.Records.{step_number}
 use Rattle.guards_model.specs.Channels.{Channel}
 use Rattle.guards_model.specs.Texts.{TraceValue}
 use Rattle.guards_nodes.specs.NodeStates.{RunningValue, WorkedValue}
@@ -22,6 +24,15 @@ pub trace_by : (q : Channel) (part : Option RunningValue) (steps : Option (List 
     option_map (with_steps q) steps ≡ option_map (λ (w : WorkedValue). with_steps q w.steps) (option_and_then (λ (r : RunningValue). r.progress.worked) part)
 trace_by q None steps is = ap (option_map (with_steps q)) is
 trace_by q (Some r) steps is = ap (option_map (with_steps q)) is ∙ told q r.progress.worked
+
+-- numbers of steps are 0 or 1
+each_of_two : (h : List Actor) → All (λ s. s < 2) (map step_number h)
+each_of_two [] = All-nil (λ s. s < 2)
+each_of_two (Task ∷ h) = All-cons (λ s. s < 2) 0 (map step_number h) (omega arith) (each_of_two h)
+each_of_two (Sweep ∷ h) = All-cons (λ s. s < 2) 1 (map step_number h) (omega arith) (each_of_two h)
+
+pub of_two : (numbers : List ℕ) (h : List Actor) → numbers ≡ map step_number h → All (λ s. s < 2) numbers
+of_two numbers h is = rw is (each_of_two h)
 
 -- ---- the last element
 

@@ -22,6 +22,11 @@ pub(crate) fn each_beside<
     let Some(last) = items.pop() else {
         return (items, Ok(()));
     };
+    if items.is_empty() {
+        let (last, then) = step(last);
+        items.push_reserved(last);
+        return (items, then);
+    }
     let ((mut others, first), (last, then)) = join(
         rt,
         || -> (Vec<T>, Result<(), AllocError>)

@@ -1,5 +1,5 @@
 //! The close of a cycle.
-ghost use Rattle.std.specs.Prelude.{◌≡◌, map, All, option_map};
+ghost use Rattle.std.specs.Prelude.{◌≡◌, length, map, All, option_map};
 ghost use Rattle.std.specs.Option.{option_or};
 ghost use Rattle.node_rounds.specs.Closing.{closed_value};
 ghost use Rattle.world_nodes.specs.NodeLists.{HasDecision, closed_in, closing_of, first_closing};
@@ -43,6 +43,7 @@ impl Nodes {
         requires { All (HasDecision mission.now) self.old }
         ensures state { self.new ≡ map (closed_in mission.now cycle) self.old }
         ensures answer { option_map closed_value result ≡ first_closing mission.now cycle self.old }
+        ensures count { length self.new ≡ length self.old }
     {
         close_each(self.list.as_mut_slice(), mission, cycle)
     }

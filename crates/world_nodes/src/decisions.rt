@@ -1,5 +1,5 @@
 //! The decision.
-ghost use Rattle.std.specs.Prelude.{◌≡◌, map, All, option_and_then};
+ghost use Rattle.std.specs.Prelude.{◌≡◌, length, map, All, option_and_then};
 ghost use Rattle.std.specs.Option.{option_copied};
 ghost use Rattle.guards_model.specs.Records.{transfer_of_pair};
 ghost use Rattle.guards_model.specs.Controls.{transfer_in};
@@ -59,6 +59,7 @@ impl Nodes {
         requires { All (MayDecide mission.now) self.old }
         ensures state { (received : AllReceived) → All (StandsAt received) self.old → self.new ≡ map (with_decisions mission.now cycle received) self.old }
         ensures answer { (received : AllReceived) → All (StandsAt received) self.old → result ≡ first_removed self.new }
+        ensures count { length self.new ≡ length self.old }
     {
         decide_each(self.list.as_mut_slice(), mission, cycle)
     }

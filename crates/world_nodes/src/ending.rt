@@ -1,5 +1,5 @@
 //! The end of a cycle.
-ghost use Rattle.std.specs.Prelude.{◌≡◌, map, All};
+ghost use Rattle.std.specs.Prelude.{◌≡◌, length, map, All};
 ghost use Rattle.world_nodes.specs.NodeLists.{TookContent, ended_on};
 
 use crate::nodes::Nodes;
@@ -33,7 +33,8 @@ impl Nodes {
     /// run with it.
     pub fn end(&mut self, on: ChanSet, taken: ChanSet)
         requires { All (TookContent taken) self.old }
-        ensures { self.new ≡ map (ended_on on) self.old }
+        ensures state { self.new ≡ map (ended_on on) self.old }
+        ensures count { length self.new ≡ length self.old }
     {
         end_each(self.list.as_mut_slice(), on, taken);
     }

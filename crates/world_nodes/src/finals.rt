@@ -1,5 +1,5 @@
 //! The final frames.
-ghost use Rattle.std.specs.Prelude.{◌≡◌, ◌<◌, ◌==◌, ◌&&◌, ◌||◌, ◌++◌, [], ◌∷◌, true, map, filter, filter_map, OnOk, IfOk};
+ghost use Rattle.std.specs.Prelude.{◌≡◌, ◌<◌, ◌==◌, ◌&&◌, ◌||◌, ◌++◌, [], ◌∷◌, true, length, map, filter, filter_map, OnOk, IfOk};
 ghost use Rattle.std.specs.List.{list_all, list_any};
 ghost use Rattle.guards_model.specs.Channels.{Channel, has};
 ghost use Rattle.guards_model.specs.Frames.{counts_in_range};
@@ -139,7 +139,7 @@ fn final_each<A: Arrived>(
 
 impl Nodes {
     /// The joining nodes take the content of the final frames of the members that arrived at them. Answers the channels
-    /// that took one. For want of memory the nodes are of no use any more.
+    /// that took one. For want of memory nothing is known of the nodes but how many there are.
     pub fn take_final<A: Arrived>(
         &mut self,
         alloc: Global,
@@ -150,6 +150,7 @@ impl Nodes {
         ensures state { OnOk result (self.new ≡ map (with_finals members (A.got arrived.now)) self.old) }
         ensures took { IfOk result (λ set. (q : Channel) → q < 7 →
             has set q ≡ list_any (λ node. takes members (A.got arrived.now) node && (node.channel == q)) self.old) }
+        ensures count { length self.new ≡ length self.old }
     {
         final_each(alloc, self.list.as_mut_slice(), members, arrived)
     }

@@ -1,5 +1,5 @@
 //! The sweep frames and the final frames.
-ghost use Rattle.std.specs.Prelude.{◌≡◌, ◌++◌, [], ◌∷◌, map, filter, filter_map, OnOk, IfOk};
+ghost use Rattle.std.specs.Prelude.{◌≡◌, ◌++◌, [], ◌∷◌, length, map, filter, filter_map, OnOk, IfOk};
 ghost use Rattle.guards_model.specs.Channels.{has};
 ghost use Rattle.guards_model.specs.Replicas.{sweep_content};
 ghost use Rattle.world_nodes.specs.NodeLists.{sweeps_of, with_sweeps};
@@ -112,8 +112,8 @@ fn sweep_each<A: Arrived>(
 }
 
 impl Nodes {
-    /// The joining nodes take the sweep frames of the members that arrived at them. For want of memory the nodes are of
-    /// no use any more.
+    /// The joining nodes take the sweep frames of the members that arrived at them. For want of memory nothing is known
+    /// of the nodes but how many there are.
     pub fn take_sweep<A: Arrived>(
         &mut self,
         alloc: Global,
@@ -121,7 +121,8 @@ impl Nodes {
         members: ChanSet,
         arrived: &A,
     ) -> Result<(), AllocError>
-        ensures { OnOk result (self.new ≡ map (with_sweeps cycle members (A.got arrived.now)) self.old) }
+        ensures state { OnOk result (self.new ≡ map (with_sweeps cycle members (A.got arrived.now)) self.old) }
+        ensures count { length self.new ≡ length self.old }
     {
         sweep_each(alloc, self.list.as_mut_slice(), cycle, members, arrived)
     }

@@ -1,5 +1,5 @@
 //! The crashes of a slot.
-ghost use Rattle.std.specs.Prelude.{◌≡◌, map};
+ghost use Rattle.std.specs.Prelude.{◌≡◌, length, map};
 ghost use Rattle.world_nodes.specs.NodeLists.{fallen_if};
 
 use crate::nodes::Nodes;
@@ -26,7 +26,8 @@ fn crash_each(nodes: &mut [Node], down: ChanSet)
 impl Nodes {
     /// The nodes of these channels crash.
     pub fn crash(&mut self, down: ChanSet)
-        ensures { self.new ≡ map (fallen_if down) self.old }
+        ensures state { self.new ≡ map (fallen_if down) self.old }
+        ensures count { length self.new ≡ length self.old }
     {
         crash_each(self.list.as_mut_slice(), down);
     }

@@ -1,5 +1,5 @@
 //! The start of a cycle.
-ghost use Rattle.std.specs.Prelude.{◌≡◌, [], ◌∷◌, map, All, IsTrue, OnOk};
+ghost use Rattle.std.specs.Prelude.{◌≡◌, [], ◌∷◌, length, map, All, IsTrue, OnOk};
 ghost use Rattle.std.specs.List.{list_all};
 ghost use Rattle.guards_model.specs.Missions.{is_fault};
 ghost use Rattle.fault_script.specs.Entries.{fault_value};
@@ -99,7 +99,7 @@ fn open_each(
 
 impl Nodes {
     /// Opens a cycle in which these channels begin to join: each running node is damaged as the script says and forms its
-    /// source word. For want of memory the nodes are of no use any more.
+    /// source word. For want of memory nothing is known of the nodes but how many there are.
     pub fn open(
         &mut self,
         alloc: Global,
@@ -108,7 +108,8 @@ impl Nodes {
         joining: ChanSet,
     ) -> Result<(), AllocError>
         requires { All (MayOpen mission.now) self.old }
-        ensures { OnOk result (self.new ≡ map (opened_with mission.now cycle joining) self.old) }
+        ensures state { OnOk result (self.new ≡ map (opened_with mission.now cycle joining) self.old) }
+        ensures count { length self.new ≡ length self.old }
     {
         open_each(alloc, self.list.as_mut_slice(), mission, cycle, joining)
     }

@@ -1,5 +1,5 @@
 //! The request slot.
-ghost use Rattle.std.specs.Prelude.{◌≡◌, map};
+ghost use Rattle.std.specs.Prelude.{◌≡◌, length, map};
 ghost use Rattle.guards_model.specs.Channels.{every_channel};
 ghost use Rattle.guards_model.specs.Network.{have_of};
 ghost use Rattle.guards_nodes.specs.NodeCalls.{changed};
@@ -45,7 +45,8 @@ fn hear_each<A: Arrived>(nodes: &mut [Node], arrived: &A, channels: &[Chan])
 impl Nodes {
     /// The running nodes hear the requests that arrived.
     pub fn hear<A: Arrived>(&mut self, arrived: &A)
-        ensures { self.new ≡ map (with_requests (A.got arrived.now)) self.old }
+        ensures state { self.new ≡ map (with_requests (A.got arrived.now)) self.old }
+        ensures count { length self.new ≡ length self.old }
     {
         hear_each(self.list.as_mut_slice(), arrived, &every_channel());
     }

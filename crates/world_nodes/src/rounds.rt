@@ -1,5 +1,5 @@
 //! The rounds of the exchange.
-ghost use Rattle.std.specs.Prelude.{◌≡◌, ◌≤◌, true, [], ◌∷◌, All, map, filter};
+ghost use Rattle.std.specs.Prelude.{◌≡◌, ◌≤◌, true, [], ◌∷◌, All, length, map, filter};
 ghost use Rattle.std.specs.Option.{option_copied};
 ghost use Rattle.guards_model.specs.Channels.{has};
 ghost use Rattle.guards_model.specs.Frames.{is_distinct};
@@ -103,8 +103,9 @@ impl Nodes {
         requires may { (received : AllReceived) × All (MayReceive round members received) self.old }
         requires rounds { AreOfRound round (A.got arrived.now) }
         requires ranges { AreInRange (A.got arrived.now) }
-        ensures { (received : AllReceived) → All (MayReceive round members received) self.old →
+        ensures state { (received : AllReceived) → All (MayReceive round members received) self.old →
             self.new ≡ map (with_exchanges round members (A.got arrived.now) received) self.old }
+        ensures count { length self.new ≡ length self.old }
     {
         receive_each(self.list.as_mut_slice(), arrived, round, members);
     }

@@ -1,5 +1,5 @@
 //! The vote slot.
-ghost use Rattle.std.specs.Prelude.{◌≡◌, ◌++◌, map, filter_map, All, OnOk, IfOk};
+ghost use Rattle.std.specs.Prelude.{◌≡◌, ◌++◌, length, map, filter_map, All, OnOk, IfOk};
 ghost use Rattle.std.specs.Option.{option_to_list};
 ghost use Rattle.guards_model.specs.Network.{ballot_of};
 ghost use Rattle.world_nodes.specs.NodeLists.{ballots_at, with_votes, line_with, HasDecision};
@@ -84,7 +84,7 @@ fn vote_each<A: Arrived>(
 
 impl Nodes {
     /// The running nodes, which have decided, vote on the ballots that arrived. Answers the line of each, in order. For
-    /// want of memory the nodes are of no use any more.
+    /// want of memory nothing is known of the nodes but how many there are.
     pub fn take_votes<A: Arrived>(
         &mut self,
         alloc: Global,
@@ -94,6 +94,7 @@ impl Nodes {
         requires { All (HasDecision mission.now) self.old }
         ensures state { OnOk result (self.new ≡ map (with_votes mission.now (A.got arrived.now)) self.old) }
         ensures lines { IfOk result (λ lines. lines.items ≡ filter_map (line_with mission.now (A.got arrived.now)) self.old) }
+        ensures count { length self.new ≡ length self.old }
     {
         let mut lines = Lines::new(alloc);
         vote_each(&mut lines, self.list.as_mut_slice(), mission, arrived)?;

@@ -41,7 +41,7 @@ size_of_parts trace M histories (e ∷ past) =
     let size : length (front ++ here ∷ []) ≡ suc (length front) = omega (arith, length-append front (here ∷ [])) in
     size ∙ ap suc (size_of_parts trace M (earlier_steps histories) past)
 
-part_is : (trace : Bool) (M K : MissionValue) (part r : RecordValue) → K ≡ M → shown M.rules.channels M.width (length M.outputs) part ≡ r → cycle_text trace K part ≡ part_text (cycle_part trace r)
+pub part_is : (trace : Bool) (M K : MissionValue) (part r : RecordValue) → K ≡ M → shown M.rules.channels M.width (length M.outputs) part ≡ r → cycle_text trace K part ≡ part_text (cycle_part trace r)
 unfolding cycle_text
 part_is trace M K part r same told =
     ap (λ (k : MissionValue). part_text (cycle_part trace (shown k.rules.channels k.width (length k.outputs) part))) same ∙ ap (λ x. part_text (cycle_part trace x)) told
@@ -50,11 +50,11 @@ pub stop_is : (stop : StopValue) → stop_text stop ≡ stop_line stop
 unfolding stop_text
 stop_is stop = refl
 
-head_is : (M : MissionValue) → head M ≡ head_line M.rules.channels M.cycles
+pub head_is : (M : MissionValue) → head M ≡ head_line M.rules.channels M.cycles
 unfolding head
 head_is M = refl
 
-last_is : (M : MissionValue) → last M ≡ done_line M.cycles
+pub last_is : (M : MissionValue) → last M ≡ done_line M.cycles
 unfolding last
 last_is M = refl
 
@@ -97,15 +97,15 @@ module _ (may : List RuleValue → EntryValue → Type 0) (trace : Bool) (M : Mi
     abbrev histories : Histories
     histories = at.1
 
-    between : IsBetween may M start w bus L histories
+    between : IsBetween may M start w bus L L histories
     between = at.2
 
     abbrev told : TextValue
     told = text_of (parts_so_far trace M histories (cycles_before M L w.done))
 
     module _ (part : RecordValue) (cycled : CycleOf may w.spent w bus (Ok part) new after) where
-      p : PassesOn may M start w L histories (Ok part) new after
-      p = passes_on may start bus w L histories M (Ok part) new after between below cycled (λ unspent none. absurd cc)
+      p : PassesOn may M start w L L histories (Ok part) new after
+      p = passes_on may start bus w L L histories M (Ok part) new after between below cycled (λ unspent none. absurd cc)
 
       abbrev K : Log
       K = L ++ p.0
@@ -113,18 +113,18 @@ module _ (may : List RuleValue → EntryValue → Type 0) (trace : Bool) (M : Mi
       abbrev more : Histories
       more = p.1 ∷ histories
 
-      next : IsBetween may M start new after K more
+      next : IsBetween may M start new after K K more
       next = p.2
 
       abbrev here : Part
       here = cycle_part trace (cycle_record M p.1 w.done (cycle_at M K w.done))
 
       part_here : cycle_text trace new.mission part ≡ part_text here
-      part_here = part_is trace M new.mission part (cycle_record M p.1 w.done (cycle_at M K w.done)) next.mission p.5
+      part_here = part_is trace M new.mission part (cycle_record M p.1 w.done (cycle_at M K w.done)) next.mission p.7
 
       parts_are : parts_so_far trace M more (cycles_before M K new.done) ≡ parts_so_far trace M histories (cycles_before M L w.done) ++ here ∷ []
       parts_are =
-          ap (λ n. parts_so_far trace M more (cycles_before M K n)) p.3 ∙ parts_more trace M histories p.1 L K w.done p.4
+          ap (λ n. parts_so_far trace M more (cycles_before M K n)) p.3 ∙ parts_more trace M histories p.1 L K w.done p.6
 
       text_is : text_of (parts_so_far trace M more (cycles_before M K new.done)) ≡ told ++ cycle_text trace new.mission part
       text_is = ap text_of parts_are ∙ text_more (parts_so_far trace M histories (cycles_before M L w.done)) here ∙ ap (λ text. told ++ text) (sym part_here)
@@ -136,7 +136,7 @@ module _ (may : List RuleValue → EntryValue → Type 0) (trace : Bool) (M : Mi
 
       unwritten : Puts out out' (cycle_text trace new.mission part) (Err write.Failed) → RunsUnwritten may trace M start after begun out'
       unwritten wrote =
-          let ran = ran_cycles may start after new K more M next in
+          let ran = ran_cycles may start after new K K more M next in
           let within : suc w.done ≤ M.cycles = omega (arith, ran.within, p.3) in
           let carried : min (suc w.done) M.cycles ≡ new.done = grind (arith, within, p.3) in
           let parts = parts_so_far trace M histories (cycles_before M L w.done) in
@@ -161,7 +161,7 @@ module _ (may : List RuleValue → EntryValue → Type 0) (trace : Bool) (M : Mi
         more,
         new.done,
         next.ran,
-        ran_short may start after new K more M next,
+        ran_short may start after new K K more M next,
         (told, cycle_text trace new.mission part, text_is, subst (λ (o : SinkView). Appends begun.written o.written told) (sym wrote) at.3),
         ap (λ (o : SinkView). o.faults) wrote ∙ at.4,
       )
@@ -173,7 +173,7 @@ module _ (may : List RuleValue → EntryValue → Type 0) (trace : Bool) (M : Mi
 
     stops : (s : StopValue) → CycleOf may w.spent w bus (Err (disturbed s)) new after → Refuses out out' (stop_text s) → RunsToStop may trace M s start after begun out'
     stops s cycled line =
-        let (now, ran, stopped, same) = passes_on may start bus w L histories M (Err (disturbed s)) new after between below cycled (λ unspent none. absurd cc) in
+        let (now, ran, stopped, same) = passes_on may start bus w L L histories M (Err (disturbed s)) new after between below cycled (λ unspent none. absurd cc) in
         let K = L ++ now in
         let at_cycle : s.cycle ≡ w.done = stop_cycle w.done (cycle_at M K w.done) s stopped.stopped in
         let text : run_text trace M K (with_unfinished (M.cycles - w.done) histories) ≡ told ++ stop_line s =
@@ -195,12 +195,12 @@ module _ (may : List RuleValue → EntryValue → Type 0) (trace : Bool) (M : Mi
 
     stops_short : (s : StopValue) → CycleOf may w.spent w bus (Err (disturbed s)) new after → out' ≡ out → RunsShort may trace M start after begun out'
     stops_short s cycled kept =
-        let (now, ran, stopped, same) = passes_on may start bus w L histories M (Err (disturbed s)) new after between below cycled (λ unspent none. absurd cc) in
+        let (now, ran, stopped, same) = passes_on may start bus w L L histories M (Err (disturbed s)) new after between below cycled (λ unspent none. absurd cc) in
         (L ++ now, histories, w.done, ran, stop_breaks_off M w.done s (L ++ now) histories stopped, front_is_written (L ++ now) same kept, ap (λ (o : SinkView). o.faults) kept ∙ at.4)
 
     runs_out : CycleOf may w.spent w bus (Err no_memory) new after → CarriesUpToStop w bus (Err no_memory) after → out' ≡ out → RunsShort may trace M start after begun out'
     runs_out cycled no_further kept =
-        let (now, ran, part, same) = passes_on may start bus w L histories M (Err no_memory) new after between below cycled no_further in
+        let (now, ran, part, same) = passes_on may start bus w L L histories M (Err no_memory) new after between below cycled no_further in
         (L ++ now, histories, w.done, ran, part, front_is_written (L ++ now) same kept, ap (λ (o : SinkView). o.faults) kept ∙ at.4)
 
     pub step_halted : (h : Halt) (stop : RunStop) → CycleOf may w.spent w bus (Err (halt_value h)) new after → CarriesUpToStop w bus (Err (halt_value h)) after → TellsHalt h out out' stop → Runs may trace M start after begun out' (Err stop)
@@ -219,7 +219,7 @@ module _ (may : List RuleValue → EntryValue → Type 0) (trace : Bool) (M : Mi
       let line = head_line M.rules.channels M.cycles in
       append-nil (line ++ []) ∙ append-nil line ∙ sym (head_is M)
 
-  first : IsMission M → start.script ≡ bus_rules M → IsBetween may M start (first_world M) start [] []
+  first : IsMission M → start.script ≡ bus_rules M → IsBetween may M start (first_world M) start [] [] []
   first mission script = begins may M start mission script
 
   pub head_done : (out : SinkView) → IsMission M → start.script ≡ bus_rules M → (r : Result (Unit {0}) WriteStop) → Puts begun out (head M) r →
@@ -229,7 +229,7 @@ module _ (may : List RuleValue → EntryValue → Type 0) (trace : Bool) (M : Mi
   head_done out mission script (Err write.Failed) wrote =
       let none : min 0 M.cycles ≡ 0 = grind arith in
       let line = head_line M.rules.channels M.cycles in
-      let ran : RanCycles M 0 [] [] = ran_cycles may start start (first_world M) [] [] M (first mission script) in
+      let ran : RanCycles M 0 [] [] = ran_cycles may start start (first_world M) [] [] [] M (first mission script) in
       let put = then_part begun begun out [] (line ∷ []) ((last_line M.cycles None ∷ []) ∷ []) (head M) (head_is M ∙ sym (append-nil line)) (Appends-nil begun.written) wrote.0 in (
         [],
         [],
@@ -244,14 +244,14 @@ module _ (may : List RuleValue → EntryValue → Type 0) (trace : Bool) (M : Mi
     [],
     0,
     (first mission script).ran,
-    ran_short may start start (first_world M) [] [] M (first mission script),
+    ran_short may start start (first_world M) [] [] [] M (first mission script),
     ([], text_of (parts_so_far trace M [] []), refl, subst (λ (o : SinkView). Appends begun.written o.written []) (sym wrote) (Appends-nil begun.written)),
     ap (λ (o : SinkView). o.faults) wrote,
   )
 
   module _ (w : WorldValue) (bus : BusValue) (out out' : SinkView) (at : IsAt may trace M start begun w bus out) (all : w.done ≡ M.cycles) where
     ran_all : RanCycles M M.cycles at.0 at.1
-    ran_all = subst (λ n. RanCycles M n at.0 at.1) all (ran_cycles may start bus w at.0 at.1 M at.2)
+    ran_all = subst (λ n. RanCycles M n at.0 at.1) all (ran_cycles may start bus w at.0 at.0 at.1 M at.2)
 
     written_all : Appends begun.written out.written (text_of (parts_so_far trace M at.1 (cycles_before M at.0 M.cycles)))
     written_all = subst (λ n. Appends begun.written out.written (text_of (parts_so_far trace M at.1 (cycles_before M at.0 n)))) all at.3
@@ -276,7 +276,7 @@ module _ (may : List RuleValue → EntryValue → Type 0) (trace : Bool) (M : Mi
           rw (← at.4) wrote.1,
         )
     end_done (Err write.Memory) wrote =
-        let ran = subst (λ n. RanPart M n at.0 at.1) all (ran_short may start bus w at.0 at.1 M at.2) in (
+        let ran = subst (λ n. RanPart M n at.0 at.1) all (ran_short may start bus w at.0 at.0 at.1 M at.2) in (
           at.0,
           at.1,
           M.cycles,

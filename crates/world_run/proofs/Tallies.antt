@@ -1,22 +1,20 @@
 -- What one more cycle does to what is kept of a run, and what its summary is.
-use Rattle.std.proofs.Common.{◌≡◌, ◌≤◌, ◌<◌, ◌+◌, ℕ, zero, suc, ℤ, Bool, true, false, ◌&&◌, List, [], ◌∷◌, ◌++◌, length, map, take, Option, Some, None, Result, Ok, Err, refl, sym, ap, subst, ◌∙◌, append-nil, arith}
+use Rattle.std.proofs.Common.{◌≡◌, ◌≤◌, ◌<◌, ◌+◌, ℕ, suc, ℤ, List, [], ◌∷◌, ◌++◌, length, map, Option, None, Result, Ok, Err, refl, sym, ap, subst, ◌∙◌}
 use Rattle.std.specs.Prelude.{nat_le, slice_get, unwrap_or, option_map}
 use Rattle.std.proofs.lemmas.Bool.{leb-true}
 use Rattle.std.specs.Io.KnownBytes.{Appends}
-use Rattle.std.proofs.KnownBytes.{Appends-nil}
 use Rattle.guards_model.specs.declared.Slot.TheVariants.{Switch}
 use Rattle.guards_model.specs.BusRules.{RuleValue}
 use Rattle.guards_model.specs.Channels.{ChannelSet, place_or}
 use Rattle.guards_model.specs.Missions.{MissionValue, IsMission, bus_rules}
-use Rattle.guards_model.specs.Network.{EntryValue, Log}
-use Rattle.guards_model.specs.Records.{shown, shown_line}
-use Rattle.guards_model.specs.Rounds.{Steps, Histories}
-use Rattle.guards_model.specs.Texts.{LineValue, RecordValue, StopValue, part_text, stop_line}
+use Rattle.guards_model.specs.Network.{EntryValue}
+use Rattle.guards_model.specs.Records.{shown_line}
+use Rattle.guards_model.specs.Texts.{LineValue, RecordValue, StopValue, part_text}
 use Rattle.guards_model.specs.CheckTexts.{summary_part}
 use Rattle.guards_model.proofs.BoolTests.{both}
-use Rattle.guards_runs.specs.Cycles.{Cycle, Past, cycles_before, cycle_at}
-use Rattle.guards_runs.specs.Report.{cycle_record, line_of, running_in}
-use Rattle.guards_world.specs.Worlds.{WorldValue, HaltValue, disturbed, no_memory, first_world}
+use Rattle.guards_runs.specs.Cycles.{Cycle, cycles_before, cycle_at}
+use Rattle.guards_runs.specs.Report.{line_of, running_in}
+use Rattle.guards_world.specs.Worlds.{WorldValue, disturbed, no_memory, first_world}
 use Rattle.guards_world.specs.WorldCycle.{BusValue, CycleOf}
 use Rattle.ideal_run.specs.Writes.{SinkView, AppendsPart}
 use Rattle.ideal_run.specs.declared.output.WriteStop.{WriteStop}
@@ -25,8 +23,8 @@ use Rattle.icn_world.specs.declared.world.Halt.{Halt}
 use Rattle.icn_world.specs.declared.world.Halt.TheVariants as halt
 use Rattle.icn_world.specs.Halts.{halt_value}
 use Rattle.cycle_laws.specs.Fronts.{CarriesUpToStop}
-use Rattle.run_laws.specs.Runs.{Ran, RanCycles, RanToStop, RanPart, IsBetween, PassesOn}
-use Rattle.run_laws.specs.Summaries.{joins_in, removals_in, last_votes, summary}
+use Rattle.run_laws.specs.Runs.{RanCycles, RanToStop, RanPart}
+use Rattle.run_laws.specs.Summaries.{joins_in, removals_in, summary}
 use Rattle.run_laws.proofs.Standing.{stop_breaks_off, stop_cycle}
 use Rattle.run_laws.proofs.Passing.{begins, passes_on, ran_cycles, ran_short}
 use Rattle.world_run.specs.declared.stop.RunStop.{RunStop}
@@ -65,7 +63,7 @@ module _ (may : List RuleValue → EntryValue → Type 0) (M : MissionValue) (st
         t'.last ≡ first_votes part.lines → TalliesTo may number M start out (suc w.done) new after out t' (Ok tt)
     tally_done part cycled joins removals last =
         let (L, histories, between, tallied) = at in
-        let (now, steps, next, done, same, told) = passes_on may start bus w L histories M (Ok part) new after between below cycled (λ unspent none. absurd cc) in
+        let (now, steps, next, done, made, full, same, told) = passes_on may start bus w L L histories M (Ok part) new after between below cycled (λ unspent none. absurd cc) in
         let K = L ++ now in
         let e = cycle_at M K w.done in
         let joined : part.joined ≡ e.joined = ap (λ (r : RecordValue). r.joined) told in
@@ -82,20 +80,20 @@ module _ (may : List RuleValue → EntryValue → Type 0) (M : MissionValue) (st
     stops : (s : StopValue) → CycleOf may w.spent w bus (Err (disturbed s)) new after → Refuses out out' (stop_text s) → SummarizesToStop may number M s start after out out'
     stops s cycled line =
         let (L, histories, between, tallied) = at in
-        let (now, ran, stopped, same) = passes_on may start bus w L histories M (Err (disturbed s)) new after between below cycled (λ unspent none. absurd cc) in
+        let (now, ran, stopped, same) = passes_on may start bus w L L histories M (Err (disturbed s)) new after between below cycled (λ unspent none. absurd cc) in
         let at_cycle : s.cycle ≡ w.done = stop_cycle w.done (cycle_at M (L ++ now) w.done) s stopped.stopped in
         (L ++ now, histories, ran, subst (λ n. RanToStop M n s (L ++ now) histories) (sym at_cycle) stopped, subst (Refuses out out') (stop_is s) line)
 
     stops_short : (s : StopValue) → CycleOf may w.spent w bus (Err (disturbed s)) new after → out' ≡ out → Summarizes may number M start after out out' (Err NoMemory)
     stops_short s cycled kept =
         let (L, histories, between, tallied) = at in
-        let (now, ran, stopped, same) = passes_on may start bus w L histories M (Err (disturbed s)) new after between below cycled (λ unspent none. absurd cc) in
+        let (now, ran, stopped, same) = passes_on may start bus w L L histories M (Err (disturbed s)) new after between below cycled (λ unspent none. absurd cc) in
         (L ++ now, histories, w.done, ran, stop_breaks_off M w.done s (L ++ now) histories stopped, kept)
 
     runs_out : CycleOf may w.spent w bus (Err no_memory) new after → CarriesUpToStop w bus (Err no_memory) after → out' ≡ out → Summarizes may number M start after out out' (Err NoMemory)
     runs_out cycled no_further kept =
         let (L, histories, between, tallied) = at in
-        let (now, ran, part, same) = passes_on may start bus w L histories M (Err no_memory) new after between below cycled no_further in
+        let (now, ran, part, same) = passes_on may start bus w L L histories M (Err no_memory) new after between below cycled no_further in
         (L ++ now, histories, w.done, ran, part, kept)
 
     pub tally_halted : (h : Halt) (stop : RunStop) → CycleOf may w.spent w bus (Err (halt_value h)) new after → CarriesUpToStop w bus (Err (halt_value h)) after → TellsHalt h out out' stop → Summarizes may number M start after out out' (Err stop)
@@ -110,7 +108,7 @@ module _ (may : List RuleValue → EntryValue → Type 0) (M : MissionValue) (st
   -- the summary of all cycles
   module _ (number : ℕ) (w : WorldValue) (bus : BusValue) (out out' : SinkView) (t : Tally) (at : IsTallied may M start w bus t) (all : w.done ≡ M.cycles) where
     ran_all : RanCycles M M.cycles at.0 at.1
-    ran_all = subst (λ n. RanCycles M n at.0 at.1) all (ran_cycles may start bus w at.0 at.1 M at.2)
+    ran_all = subst (λ n. RanCycles M n at.0 at.1) all (ran_cycles may start bus w at.0 at.0 at.1 M at.2)
 
     text_is : summary_of number (length M.outputs) w.carried t ≡ summary number M at.0
     unfolding summary_of summary
@@ -127,4 +125,4 @@ module _ (may : List RuleValue → EntryValue → Type 0) (M : MissionValue) (st
     summary_done (Err write.Failed) wrote =
         (at.0, at.1, at.2.ran, ran_all, subst (AppendsPart out.written out'.written) text_is wrote.0, wrote.1)
     summary_done (Err write.Memory) wrote =
-        (at.0, at.1, M.cycles, at.2.ran, subst (λ n. RanPart M n at.0 at.1) all (ran_short may start bus w at.0 at.1 M at.2), wrote)
+        (at.0, at.1, M.cycles, at.2.ran, subst (λ n. RanPart M n at.0 at.1) all (ran_short may start bus w at.0 at.0 at.1 M at.2), wrote)

@@ -112,7 +112,7 @@ module _ (may : List RuleValue → EntryValue → Type 0) (trace : Bool) (M : Mi
   -- Between two cycles of a run that began with this bus and this sink: the head line and the parts of the cycles were written.
   abbrev pub IsAt : BusValue → SinkView → WorldValue → BusValue → SinkView → Type 0
   IsAt start begun w bus out =
-      (L : Log) × (histories : Histories) × IsBetween may M start w bus L histories
+      (L : Log) × (histories : Histories) × IsBetween may M start w bus L L histories
       × Appends begun.written out.written (text_of (parts_so_far trace M histories (cycles_before M L w.done)))
       × (out.faults ≡ begun.faults)
 

@@ -42,7 +42,7 @@ summary_of number outputs frames t = part_text (summary_part number t.joins t.re
 -- between two cycles of a run that began with this bus, with what was kept of its cycles
 abbrev pub IsTallied : (List RuleValue → EntryValue → Type 0) → MissionValue → BusValue → WorldValue → BusValue → Tally → Type 0
 IsTallied may M start w bus tally =
-    (L : Log) × (histories : Histories) × IsBetween may M start w bus L histories × IsTallyOf M (cycles_before M L w.done) tally
+    (L : Log) × (histories : Histories) × IsBetween may M start w bus L L histories × IsTallyOf M (cycles_before M L w.done) tally
 
 module _ (may : List RuleValue → EntryValue → Type 0) (number : ℕ) (M : MissionValue) where
   -- the cycles before the stop ran, and its own up to the end of its slot; its line stands alone

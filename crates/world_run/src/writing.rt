@@ -32,7 +32,7 @@ pub fn refuse<K: Sink>(out: &mut K, line: &str)
 }
 
 #[tactic(auto, unfolding(ideal_run::specs::Report::head))]
-fn head_text(alloc: Global, mission: &Mission) -> Result<Text, AllocError>
+pub(crate) fn head_text(alloc: Global, mission: &Mission) -> Result<Text, AllocError>
     ensures { IfOk result (λ text. text ≡ head mission.now) }
 {
     let mut text = Text::new(alloc);
@@ -53,7 +53,7 @@ pub fn put_head<K: Sink>(alloc: Global, mission: &Mission, out: &mut K) -> Resul
 }
 
 #[tactic(auto, unfolding(crate::specs::Running::cycle_text))]
-fn cycle_text(
+pub(crate) fn cycle_text(
     alloc: Global,
     mission: &Mission,
     part: &CycleRecord,
@@ -88,7 +88,7 @@ pub fn put_cycle<K: Sink>(
 }
 
 #[tactic(auto, unfolding(ideal_run::specs::Report::last))]
-fn end_text(alloc: Global, mission: &Mission) -> Result<Text, AllocError>
+pub(crate) fn end_text(alloc: Global, mission: &Mission) -> Result<Text, AllocError>
     ensures { IfOk result (λ text. text ≡ last mission.now) }
 {
     let mut text = Text::new(alloc);
@@ -108,7 +108,7 @@ pub fn put_end<K: Sink>(alloc: Global, mission: &Mission, out: &mut K) -> Result
 }
 
 #[tactic(auto, unfolding(crate::specs::Running::stop_text))]
-fn stop_text(
+pub(crate) fn stop_text(
     alloc: Global,
     cycle: u32,
     slot: Slot,

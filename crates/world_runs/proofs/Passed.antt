@@ -26,7 +26,7 @@ module _ {may : List RuleValue → EntryValue → Type 0} where
       (record { mission = M; start = bus; entries = []; histories = []; at = begins may M bus mission script })
 
   pub may_pass : (w : WorldValue) (bus : BusValue) → IsRunning may w bus → w.done < w.mission.cycles → MayCycle w bus
-  may_pass w bus runs below = may_cycle may runs.start bus w runs.entries runs.histories runs.mission runs.at below
+  may_pass w bus runs below = may_cycle may runs.start bus w runs.entries runs.entries runs.histories runs.mission runs.at below
 
   again : (w : WorldValue) (bus : BusValue) (halt : HaltValue) (new : WorldValue) (after : BusValue) → w.done < w.mission.cycles →
       CycleOf may None w bus (Err halt) new after → MayCycle new after
@@ -40,7 +40,7 @@ module _ {may : List RuleValue → EntryValue → Type 0} where
   pub passed : (w : WorldValue) (bus : BusValue) (result : Result RecordValue Halt) (new : WorldValue) (after : BusValue) → IsRunning may w bus →
       w.done < w.mission.cycles → CycleOf may w.spent w bus (with_halt_value result) new after → Passed may w result new after
   passed w bus (Ok part) new after runs below cycled =
-      let on = passes_on may runs.start bus w runs.entries runs.histories runs.mission (Ok part) new after runs.at below cycled (λ fresh is. absurd (cc is)) in
+      let on = passes_on may runs.start bus w runs.entries runs.entries runs.histories runs.mission (Ok part) new after runs.at below cycled (λ fresh is. absurd (cc is)) in
       record {
         running = record { mission = runs.mission; start = runs.start; entries = runs.entries ++ on.0; histories = on.1 ∷ runs.histories; at = on.2 };
         one_more = omega (arith, on.3);

@@ -13,4 +13,4 @@ pub record IsRunning (may : List RuleValue → EntryValue → Type 0) (w : World
   pub start : BusValue
   pub entries : Log
   pub histories : Histories
-  pub at : IsBetween may mission start w bus entries histories
+  pub at : IsBetween may mission start w bus entries entries histories

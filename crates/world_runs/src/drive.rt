@@ -67,18 +67,23 @@ fn tell(
     write_cycle(alloc, text, part, channels, width, outputs, true)
 }
 
-// Appends the line of a stop.
+// Appends the line of a halt.
+fn tell_one(alloc: Global, text: &mut Text, halt: Halt) -> Result<(), AllocError> {
+    match halt {
+        Halt::Disturbed {
+            cycle,
+            slot,
+            set,
+            active,
+        } => write_stop(alloc, text, cycle, slot, set, active),
+        Halt::NoMemory => text.push_str("no memory\n"),
+    }
+}
+
+// Appends the line of a halt, if there is one.
 fn tell_halt(alloc: Global, text: &mut Text, halt: &Option<Halt>) -> Result<(), AllocError> {
     match halt {
-        Some(
-            Halt::Disturbed {
-                cycle,
-                slot,
-                set,
-                active,
-            },
-        ) => write_stop(alloc, text, *cycle, *slot, *set, *active),
-        Some(Halt::NoMemory) => text.push_str("no memory\n"),
+        Some(halt) => tell_one(alloc, text, *halt),
         None => Ok(()),
     }
 }

@@ -2,7 +2,7 @@ use Rattle.std.proofs.Common.{inr, subst}
 use Rattle.check_text.specs.Check.{check_of}
 use Rattle.ideal_run.specs.Writes.{SinkView, sink_view}
 use Rattle.mission_run.specs.Reading.{ReadsMission, Tells}
-use Rattle.mission_run.specs.Stream.{source_view}
+use Rattle.guards_io.specs.Stream.{source_view}
 use Rattle.mission_run.proofs.reading.check_read.Goals as goal
 
 pub returns-in-Ok : goal.returns-in-Ok

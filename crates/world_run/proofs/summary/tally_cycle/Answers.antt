@@ -1,4 +1,4 @@
-use Rattle.std.proofs.Common.{◌≡◌, Ok, Err, sym, ap, subst, ◌∙◌}
+use Rattle.std.proofs.Common.{subst}
 use Rattle.ideal_run.specs.Writes.{sink_view}
 use Rattle.guards_world.specs.WorldCycle.{CycleOf}
 use Rattle.cycle_laws.specs.Fronts.{CarriesUpToStop}

@@ -1,12 +1,11 @@
-use Rattle.std.proofs.Common.{◌≡◌, ℕ, Err, refl, ap, sym, subst, ◌∙◌, arith}
+use Rattle.std.proofs.Common.{Err, refl, ap, subst, ◌∙◌, arith}
 use Rattle.std.proofs.lemmas.Result.{err_from_is_err_and}
 use Rattle.guards_model.specs.Missions.{MissionValue}
 use Rattle.guards_world.specs.Worlds.{WorldValue}
 use Rattle.ideal_run.specs.Writes.{SinkView, sink_view}
-use Rattle.run_laws.proofs.Passing.{may_cycle}
 use Rattle.world_run.specs.Running.{bus_value}
 use Rattle.world_run.specs.Tallying.{TalliesTo}
-use Rattle.world_run.proofs.Tallies.{first_tallied, few_cycles}
+use Rattle.world_run.proofs.Tallies.{first_tallied}
 use Rattle.world_run.proofs.summary.tally_cycles.Goals as goal
 
 pub loop-cycle-init : goal.loop-cycle-init

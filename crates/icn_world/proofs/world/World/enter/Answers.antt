@@ -9,4 +9,4 @@ returns-clause-state c = λ L now steps before carried handed soon on inside.
     enters_by c.args.self.now _ L now steps before c.args.slot carried handed c.start_slot-down.new.self c.start_slot-down.result c.crash.new.self
     c.self.view_is inside soon on
     (c.start_slot-down.ensures.ledger ∙ ap (λ (s : List FaultValue). ledger_in_slot s c.self.inside.done c.args.slot c.self.inside.ledger) c.script.ensures)
-    c.start_slot-down.ensures.down c.crash.ensures
+    c.start_slot-down.ensures.down c.crash.ensures.state

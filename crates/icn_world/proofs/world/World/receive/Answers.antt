@@ -15,7 +15,7 @@ receive-requires-clause-rounds c =
 pub returns-then-has_round-clause-state : goal.returns-then-has_round-clause-state
 returns-then-has_round-clause-state c = λ L now steps inside are.
     received_by c.args.self.now _ c.self.view_is c.args.slot c.requires.round L now steps inside c.index-round.result c.index-round.ensures
-    c.on-members.result c.on-members.ensures (sym c.has_round.ensures ∙ c.if-has_round.true) (got_of c.args.arrived.now) c.receive.new.self c.receive.ensures
+    c.on-members.result c.on-members.ensures (sym c.has_round.ensures ∙ c.if-has_round.true) (got_of c.args.arrived.now) c.receive.new.self c.receive.ensures.state
 
 pub returns-else-has_round-clause-state : goal.returns-else-has_round-clause-state
 returns-else-has_round-clause-state c = λ L now steps inside are.

@@ -13,16 +13,16 @@ returns-then-round-eq1-clause-kept c =
     λ received rest h.
     let ready : IsReady c.args.self.now c.args.round c.args.from c.args.item.now =
     ready_from (the_view c.self.inside) c.args.self.now c.args.round c.args.from c.args.item.now c.self.view_is c.self.invariant.set c.self.invariant.mine c.requires.member c.requires.another c.requires.ranges in
-    let word : c.word_for-word.result ≡ option_and_then (of_width c.args.self.now.width) c.args.item.now.word =
+    let word : c.word_for-word.result.now ≡ option_and_then (of_width c.args.self.now.width) c.args.item.now.word =
     c.word_for-word.ensures ∙ ap (λ (t : TreeValue). option_and_then (of_width t.width) c.args.item.now.word) c.self.view_is in
-    put_first c.args.self.now c.keep_first.new.self received c.args.round c.args.from c.args.item.now rest c.word_for-word.result ready c.if-round-eq1.true word c.keep_first.ensures h
+    put_first c.args.self.now c.keep_first.new.self received c.args.round c.args.from c.args.item.now rest c.word_for-word.result.now ready c.if-round-eq1.true word c.keep_first.ensures h
 
 pub returns-then-has-clause-kept : goal.returns-then-has-clause-kept
 returns-then-has-clause-kept c =
     λ received rest h.
     let ready : IsReady c.args.self.now c.args.round c.args.from c.args.item.now =
     ready_from (the_view c.self.inside) c.args.self.now c.args.round c.args.from c.args.item.now c.self.view_is c.self.invariant.set c.self.invariant.mine c.requires.member c.requires.another c.requires.ranges in
-    let word : c.word_for-word.result ≡ option_and_then (of_width c.args.self.now.width) c.args.item.now.word =
+    let word : c.word_for-word.result.now ≡ option_and_then (of_width c.args.self.now.width) c.args.item.now.word =
     c.word_for-word.ensures ∙ ap (λ (t : TreeValue). option_and_then (of_width t.width) c.args.item.now.word) c.self.view_is in
     let few : length c.args.self.now.members ≤ 7 = few_members c.args.self.now.members ready.set in
     let low = c.requires.low in
@@ -32,7 +32,7 @@ returns-then-has-clause-kept c =
     let there : has c.args.self.now.members c.label_at-a.result ≡ true = subst (λ (t : TreeValue). has t.members c.label_at-a.result ≡ true) c.self.view_is (sym c.has.ensures ∙ c.if-has.true) in
     let two = c.if-round-eq2.true in
     let many : 4 ≤ length c.args.self.now.members = omega arith in
-    put_second c.args.self.now c.keep_second.new.self received c.args.round c.args.from c.args.item.now rest c.word_for-word.result c.label_at-a.result ready c.if-round-eq2.true path there many word c.keep_second.ensures h
+    put_second c.args.self.now c.keep_second.new.self received c.args.round c.args.from c.args.item.now rest c.word_for-word.result.now c.label_at-a.result ready c.if-round-eq2.true path there many word c.keep_second.ensures h
 
 pub returns-else-has-clause-kept : goal.returns-else-has-clause-kept
 returns-else-has-clause-kept c =
@@ -48,7 +48,7 @@ returns-then-has-3-clause-kept c =
     λ received rest h.
     let ready : IsReady c.args.self.now c.args.round c.args.from c.args.item.now =
     ready_from (the_view c.self.inside) c.args.self.now c.args.round c.args.from c.args.item.now c.self.view_is c.self.invariant.set c.self.invariant.mine c.requires.member c.requires.another c.requires.ranges in
-    let word : c.word_for-word.result ≡ option_and_then (of_width c.args.self.now.width) c.args.item.now.word =
+    let word : c.word_for-word.result.now ≡ option_and_then (of_width c.args.self.now.width) c.args.item.now.word =
     c.word_for-word.ensures ∙ ap (λ (t : TreeValue). option_and_then (of_width t.width) c.args.item.now.word) c.self.view_is in
     let few : length c.args.self.now.members ≤ 7 = few_members c.args.self.now.members ready.set in
     let low = c.requires.low in
@@ -60,7 +60,7 @@ returns-then-has-3-clause-kept c =
     let there_a : has c.args.self.now.members c.label_at-a-else-round-eq2.result ≡ true = subst (λ (t : TreeValue). has t.members c.label_at-a-else-round-eq2.result ≡ true) c.self.view_is (sym c.has-else-round-eq2.ensures ∙ c.if-has-2.true) in
     let there_b : has c.args.self.now.members c.label_at-b.result ≡ true = subst (λ (t : TreeValue). has t.members c.label_at-b.result ≡ true) c.self.view_is (sym c.has-then-has-2.ensures ∙ c.if-has-3.true) in
     let many : 7 ≤ length c.args.self.now.members = omega arith in
-    put_third c.args.self.now c.keep_third.new.self received c.args.round c.args.from c.args.item.now rest c.word_for-word.result c.label_at-a-else-round-eq2.result c.label_at-b.result ready three path there_a there_b many word c.keep_third.ensures h
+    put_third c.args.self.now c.keep_third.new.self received c.args.round c.args.from c.args.item.now rest c.word_for-word.result.now c.label_at-a-else-round-eq2.result c.label_at-b.result ready three path there_a there_b many word c.keep_third.ensures h
 
 pub returns-else-has-3-clause-kept : goal.returns-else-has-3-clause-kept
 returns-else-has-3-clause-kept c =

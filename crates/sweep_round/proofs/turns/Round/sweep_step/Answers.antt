@@ -1,7 +1,8 @@
-use Rattle.std.proofs.Common.{◌≡◌, ◌∙◌, refl, sym, ap, subst, ℕ, ◌+◌, ◌<◌, ◌≤◌, List, [], ◌∷◌, ◌++◌, length, rules, arith}
+use Rattle.std.proofs.Common.{◌≡◌, ◌∙◌, refl, sym, ap, subst, map, ℕ, ◌+◌, ◌<◌, ◌≤◌, List, [], ◌∷◌, ◌++◌, length, rules, arith}
 use Rattle.sweep_round.specs.Replay.{origin_of, actors_of, IsReplay, AreMade}
 use Rattle.sweep_round.specs.Rounds.{start_origin, round_start}
-use Rattle.sweep_round.proofs.RoundSteps.{Copied, copied}
+use Rattle.guards_model.specs.Records.{step_number}
+use Rattle.sweep_round.proofs.RoundSteps.{numbers_more, Copied, copied}
 use Rattle.sweep_round.proofs.turns.Round.sweep_step.Goals as goal
 
 pub invariant_of-self-clause-replay : goal.invariant_of-self-clause-replay
@@ -22,3 +23,8 @@ invariant_of-self-clause-made g c =
     copied o r.history.items r.context r.feed.producer.end.past r.writes r.copies c.get-block.result c.get-words.result.words r.replay r.made
     (omega (arith, c.if-self-len.false, c.len.ensures.value)) c.get-block.ensures c.get-words.ensures in
     subst (λ l. AreMade o (actors_of l) r.writes (r.copies + 1)) (sym c.push_reserved.ensures.items) d.made_are
+
+pub invariant_of-self-clause-numbers : goal.invariant_of-self-clause-numbers
+invariant_of-self-clause-numbers g c =
+    let r = c.args.self.now in
+    subst (λ l. l ≡ map step_number (actors_of l)) (sym c.push_reserved.ensures.items) (numbers_more r.history.items 1 refl r.numbers)

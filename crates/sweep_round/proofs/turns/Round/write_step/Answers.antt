@@ -1,7 +1,8 @@
-use Rattle.std.proofs.Common.{◌≡◌, ◌∙◌, refl, sym, ap, subst, ℕ, ◌+◌, ◌<◌, ◌≤◌, List, [], ◌∷◌, ◌++◌, length, rules, arith}
+use Rattle.std.proofs.Common.{◌≡◌, ◌∙◌, refl, sym, ap, subst, map, ℕ, ◌+◌, ◌<◌, ◌≤◌, List, [], ◌∷◌, ◌++◌, length, rules, arith}
 use Rattle.sweep_round.specs.Replay.{origin_of, actors_of, IsReplay, AreMade}
 use Rattle.sweep_round.specs.Rounds.{start_origin, round_start}
-use Rattle.sweep_round.proofs.RoundSteps.{Wrote, wrote}
+use Rattle.guards_model.specs.Records.{step_number}
+use Rattle.sweep_round.proofs.RoundSteps.{numbers_more, Wrote, wrote}
 use Rattle.sweep_round.proofs.turns.Round.write_step.Goals as goal
 
 pub invariant_of-self-clause-replay : goal.invariant_of-self-clause-replay
@@ -24,3 +25,8 @@ invariant_of-self-clause-blocks g c =
     let o = start_origin (round_start r) in
     let w = wrote o r.history.items r.context c.apply_write.new.ctx r.feed.producer.end.past r.writes r.copies c.apply_write.result r.replay r.made (omega (arith, c.if-self.false, r.due_is.0)) c.apply_write.ensures in
     (w.length_is ∙ r.blocks.0, r.blocks.1, r.blocks.2)
+
+pub invariant_of-self-clause-numbers : goal.invariant_of-self-clause-numbers
+invariant_of-self-clause-numbers g c =
+    let r = c.args.self.now in
+    subst (λ l. l ≡ map step_number (actors_of l)) (sym c.push_reserved.ensures.items) (numbers_more r.history.items 0 refl r.numbers)

@@ -1,0 +1,4 @@
+pub mod Told
+pub mod Tests
+pub mod Consistency
+pub mod Verdicts

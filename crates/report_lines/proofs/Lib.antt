@@ -1,0 +1,4 @@
+pub mod PrintedLines
+pub mod ReadBack
+pub mod LinesBack
+pub mod ReportsBack

@@ -1,0 +1,205 @@
+//! Runs a mission and tells its last cycles, once it has ended.
+ghost use Rattle.std.specs.Prelude.{◌≡◌, ◌≤◌, ◌<◌, [], ◌∷◌, ◌++◌, suc, flat_map, ℕ};
+ghost use Rattle.flight_log.specs.Kept.{kept};
+ghost use Rattle.guards_model.specs.Missions.{MissionValue, IsMission, bus_rules};
+ghost use Rattle.guards_world.specs.Worlds.{first_world};
+ghost use Rattle.guards_world.specs.WorldCycle.{BusValue, MayCycle};
+ghost use Rattle.ideal_run.specs.Report.{last};
+ghost use Rattle.ideal_run.specs.Writes.{sink_view};
+ghost use Rattle.world_run.specs.Running.{bus_value, Puts, cycle_text};
+ghost use Rattle.world_run.specs.Keeping.{Gives, Keeps, IsKept, KeepsTo, RunsLast, TellsKept, kept_text};
+
+use crate::running::told;
+use crate::stop::RunStop;
+use crate::writing::{cycle_text, end_text, head_text, stop_text};
+use ctx_lock::Gate;
+use flight_log::FlightLog;
+use guards_base::{Bytes, CycleRecord, Text};
+use guards_io::{Failed, Sink};
+use icn_bus::Bus;
+use icn_world::{Halt, World};
+use ideal_run::{WriteStop, write_all};
+use mission_type::Mission;
+use native_calls::Calls;
+use std::alloc::Global;
+use std::sync::Wait;
+use std::thread::Threads;
+
+/// Hands a piece to the sink.
+fn give<K: Sink>(out: &mut K, piece: &[u8]) -> Result<(), Failed>
+    ensures { Gives (sink_view (K.written out.old) (K.faults out.old))
+        (sink_view (K.written out.new) (K.faults out.new)) piece.now result }
+{
+    write_all(out, piece)
+}
+
+/// Hands over the parts that were kept, one after the other.
+fn give_parts<K: Sink>(out: &mut K, log: &FlightLog) -> Result<(), Failed>
+    ensures { Gives (sink_view (K.written out.old) (K.faults out.old))
+        (sink_view (K.written out.new) (K.faults out.new)) (flat_map (λ text. text) log.now.parts) result }
+{
+    for place in 0..log.len() {
+        give(out, log.get(place).as_slice())?;
+    }
+    Ok(())
+}
+
+/// Hands over a head line, the parts that were kept, and a last line.
+fn give_kept<K: Sink>(out: &mut K, head: &Text, log: &FlightLog, line: &Text) -> Result<(), Failed>
+    ensures { Gives (sink_view (K.written out.old) (K.faults out.old))
+        (sink_view (K.written out.new) (K.faults out.new)) (kept_text head.now log.now.parts ++ line.now) result }
+{
+    give(out, head.as_str().as_bytes())?;
+    give_parts(out, log)?;
+    give(out, line.as_str().as_bytes())
+}
+
+/// Writes what was kept of a run that did not stop.
+fn put_kept<K: Sink>(
+    alloc: Global,
+    mission: &Mission,
+    head: &Text,
+    log: &FlightLog,
+    out: &mut K,
+) -> Result<(), WriteStop>
+    ensures { Puts (sink_view (K.written out.old) (K.faults out.old))
+        (sink_view (K.written out.new) (K.faults out.new)) (kept_text head.now log.now.parts ++ last mission.now) result }
+{
+    let Ok(line) = end_text(alloc, mission) else {
+        return Err(WriteStop::Memory);
+    };
+    match give_kept(out, head, log, &line) {
+        Ok(()) => Ok(()),
+        Err(_) => Err(WriteStop::Failed),
+    }
+}
+
+/// Writes what was kept before a halt, and tells it. A sink that fails changes nothing of the answer.
+fn tell_kept<K: Sink>(
+    alloc: Global,
+    halt: Halt,
+    head: &Text,
+    log: &FlightLog,
+    out: &mut K,
+) -> RunStop
+    ensures { TellsKept halt (kept_text head.now log.now.parts) (sink_view (K.written out.old) (K.faults out.old))
+        (sink_view (K.written out.new) (K.faults out.new)) result }
+{
+    let Halt::Disturbed {
+        cycle,
+        slot,
+        set,
+        active,
+    } = halt
+    else {
+        return RunStop::NoMemory;
+    };
+    let Ok(line) = stop_text(alloc, cycle, slot, set, active) else {
+        return RunStop::NoMemory;
+    };
+    let _ = give_kept(out, head, log, &line);
+    RunStop::Disturbed {
+        cycle,
+        slot,
+        set,
+        active,
+    }
+}
+
+/// Keeps the part of a cycle, with its trace lines where `trace` says so.
+fn keep(
+    alloc: Global,
+    mission: &Mission,
+    part: &CycleRecord,
+    trace: bool,
+    log: &mut FlightLog,
+) -> Result<(), Halt>
+    ensures { Keeps log.old log.new (cycle_text trace mission.now part.now) result }
+{
+    let text = cycle_text(alloc, mission, part, trace)?;
+    let bytes = Bytes::from_slice(alloc, text.as_str().as_bytes())?;
+    let _ = log.push(bytes);
+    Ok(())
+}
+
+/// Passes one more cycle, and keeps its part.
+fn keep_cycle<B: Bus, G: Gate, C: Calls + Sync, R: Threads + Wait + Sync>(
+    rt: &R,
+    alloc: Global,
+    world: &mut World,
+    bus: &mut B,
+    gate: &G,
+    natives: &C,
+    trace: bool,
+    log: &mut FlightLog,
+) -> Result<(), Halt>
+    requires { MayCycle world.old (bus_value (B.log bus.old) (B.script bus.old)) }
+    ensures { (k : ℕ) (M : MissionValue) (start : BusValue) →
+        IsKept B.may k trace M start world.old (bus_value (B.log bus.old) (B.script bus.old)) log.old →
+        KeepsTo B.may k trace M start (suc world.old.done) world.new (bus_value (B.log bus.new) (B.script bus.new)) log.new result }
+{
+    match world.cycle(rt, alloc, bus, gate, natives) {
+        Ok(part) => keep(alloc, world.mission(), &part, trace, log),
+        Err(halt) => Err(halt),
+    }
+}
+
+/// Passes all cycles, and keeps the last parts.
+fn keep_cycles<B: Bus, G: Gate, C: Calls + Sync, R: Threads + Wait + Sync>(
+    rt: &R,
+    alloc: Global,
+    world: &mut World,
+    bus: &mut B,
+    gate: &G,
+    natives: &C,
+    trace: bool,
+    log: &mut FlightLog,
+) -> Result<(), Halt>
+    requires world { world.old ≡ first_world world.old.mission }
+    requires mission { IsMission world.old.mission }
+    requires loaded { B.script bus.old ≡ bus_rules world.old.mission }
+    requires empty { log.old.parts ≡ [] }
+    ensures { KeepsTo B.may log.old.room trace world.old.mission (bus_value (B.log bus.old) (B.script bus.old))
+        world.old.mission.cycles world.new (bus_value (B.log bus.new) (B.script bus.new)) log.new result }
+{
+    for cycle in 0..world.mission().cycles() {
+        let _cycle = cycle;
+        keep_cycle(rt, alloc, world, bus, gate, natives, trace, log)?;
+    }
+    Ok(())
+}
+
+/// Runs the world's mission from its start over a bus that has the mission's rules, and keeps the parts of the last cycles, at
+/// most `last` of them. When the run has ended, also by a stop, it writes the head line, these parts, and the last line or the
+/// stop's line, one after the other. All memory is taken before the first of them is written.
+pub fn run_last<B: Bus, G: Gate, C: Calls + Sync, R: Threads + Wait + Sync, K: Sink>(
+    rt: &R,
+    alloc: Global,
+    world: &mut World,
+    bus: &mut B,
+    gate: &G,
+    natives: &C,
+    out: &mut K,
+    trace: bool,
+    last: u16,
+) -> Result<(), RunStop>
+    requires fresh { world.old ≡ first_world world.old.mission }
+    requires mission { IsMission world.old.mission }
+    requires loaded { B.script bus.old ≡ bus_rules world.old.mission }
+    requires some { 1 ≤ last }
+    requires few { last ≤ 2000 }
+    ensures { RunsLast B.may last trace world.old.mission (bus_value (B.log bus.old) (B.script bus.old))
+        (bus_value (B.log bus.new) (B.script bus.new)) (sink_view (K.written out.old) (K.faults out.old))
+        (sink_view (K.written out.new) (K.faults out.new)) result }
+{
+    let Ok(head) = head_text(alloc, world.mission()) else {
+        return Err(RunStop::NoMemory);
+    };
+    let Ok(mut log) = FlightLog::new(alloc, last) else {
+        return Err(RunStop::NoMemory);
+    };
+    match keep_cycles(rt, alloc, world, bus, gate, natives, trace, &mut log) {
+        Ok(()) => told(put_kept(alloc, world.mission(), &head, &log, out)),
+        Err(halt) => Err(tell_kept(alloc, halt, &head, &log, out)),
+    }
+}
