@@ -11,7 +11,7 @@ import os
 import sys
 
 # The key `actuator`: True where the program reads it.
-ACTUATOR = False
+ACTUATOR = True
 
 I64 = {"type": "integer", "minimum": -2**63, "maximum": 2**63 - 1}
 NAME = "^[a-z][a-z0-9_]*$"

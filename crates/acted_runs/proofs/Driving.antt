@@ -344,6 +344,11 @@ module _ (may : List RuleValue → EntryValue → Type 0) (M : MissionValue) (st
             subst (λ x. Drives (Some a) may M start w F histories (with_part part r) new after x) (sym gate_is)
             (subst (λ x. Drives (Some a) may M start w F histories (with_part part x) new after (Some g')) (sym ends) done)
 
+      -- the mission stays
+      pub driven_finished_mission : (o : Option ActuatorValue) → IsDriven o may M start w bus gate F histories → new.mission ≡ M
+      driven_finished_mission None at = (p at.0).2.mission
+      driven_finished_mission (Some a) at = (q a at.0 at.2).2.mission
+
       -- the exchange of a cycle of a run may be made
       pub driven_may : (o : Option ActuatorValue) → IsDriven o may M start w bus gate F histories → (g : GateValue) → gate ≡ Some g →
           (s : SettledValue) × (new.settled ≡ Some s) × MayExchange M.rules.version (length g.words) part s

@@ -2,7 +2,8 @@
 #![tactic(auto)]
 
 ghost use Rattle.std.specs.Prelude.{◌≡◌, ◌≤ℤ◌, [], ◌∷◌, pos};
-ghost use Rattle.guards_model.specs.Actuators.{limited};
+ghost use Rattle.guards_base.specs.Padding.{padded};
+ghost use Rattle.guards_model.specs.Actuators.{limited, words_moved};
 
 use guards_base::Ballot;
 use native_calls::ramp;
@@ -11,6 +12,7 @@ use output_gate::{Limit, Limiter, Moves, OutputGate};
 /// Keeps the closure, and moves a gate at 3 by 3 with these ballots.
 fn moved<F: Moves + Sync>(f: F, frames: &[Option<Ballot>; 7]) -> [i64; 8]
     requires { F.limits f }
+    ensures { result ≡ padded 8 (words_moved (pos 3 ∷ []) (pos 3 ∷ []) frames.now) }
 {
     let limiter = Limiter::new(f);
     let mut gate = OutputGate::new(1, [3, 0, 0, 0, 0, 0, 0, 0], [3, 0, 0, 0, 0, 0, 0, 0]);
@@ -18,8 +20,10 @@ fn moved<F: Moves + Sync>(f: F, frames: &[Option<Ballot>; 7]) -> [i64; 8]
     gate.words()
 }
 
-/// A gate that moves by the ramp.
-pub fn by_ramp(frames: &[Option<Ballot>; 7]) -> [i64; 8] {
+/// The words of a gate at 3 that is moved once by the ramp, with the step 3.
+pub fn by_ramp(frames: &[Option<Ballot>; 7]) -> [i64; 8]
+    ensures { result ≡ padded 8 (words_moved (pos 3 ∷ []) (pos 3 ∷ []) frames.now) }
+{
     moved(
         |last: i64, wanted: i64, step: i64| -> i64
             requires { pos 0 ≤ℤ step }
@@ -28,6 +32,3 @@ pub fn by_ramp(frames: &[Option<Ballot>; 7]) -> [i64; 8] {
         frames,
     )
 }
-
-#[cfg(test)]
-mod tests;

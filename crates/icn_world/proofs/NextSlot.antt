@@ -11,7 +11,7 @@ use Rattle.guards_world.specs.WorldCycle.{BusValue}
 use Rattle.fault_script.specs.declared.disturbance.Disturbance.{Disturbance}
 use Rattle.slot_traffic.specs.Pieces.{ArrivedValue}
 use Rattle.icn_world.specs.declared.world.Halt.{Halt}
-use Rattle.icn_world.specs.declared.rounds.Settled.{Settled}
+use Rattle.icn_world.specs.declared.rounds.Reconfiguration.{Reconfiguration}
 use Rattle.icn_world.specs.Stages.{Condition, Goes, Inside, HasArrived}
 use Rattle.icn_world.specs.Settled.{MayEnter, IsDecided, IsSettled}
 use Rattle.icn_world.proofs.Chaining.{then, from, knowing, then_step}
@@ -40,7 +40,7 @@ may_enter_then before slot soon leaves held one = (
 
 -- the rounds are over, and the tasks slot is carried
 pub then_settled : {may : List RuleValue → EntryValue → Type 0} {P : Condition} {w w1 w2 : WorldValue} {d d1 d2 : Disturbance} {b b1 b2 : BusValue}
-    (settled : Settled) (arrived : ArrivedValue) → Goes may P IsDecided (Ok settled) w w1 d d1 b b1 →
+    (settled : Reconfiguration) (arrived : ArrivedValue) → Goes may P IsDecided (Ok settled) w w1 d d1 b b1 →
     Goes may (MayEnter Tasks) (HasArrived Tasks) (Ok arrived) w1 w2 d1 d2 b1 b2 → Goes may P IsSettled (Ok settled) w w2 d d2 b b2
 then_settled {w1 = w1} {w2 = w2} {d1 = d1} {d2 = d2} settled arrived one two =
     then one

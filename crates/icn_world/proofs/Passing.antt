@@ -31,7 +31,7 @@ use Rattle.cycle_laws.proofs.Following.{follows}
 use Rattle.cycle_laws.proofs.Keeping.{rounds_later, vote_later}
 use Rattle.fault_script.specs.declared.disturbance.Disturbance.{Disturbance}
 use Rattle.icn_world.specs.declared.world.Halt.{Halt}
-use Rattle.icn_world.specs.declared.rounds.Settled.{Settled}
+use Rattle.icn_world.specs.declared.rounds.Reconfiguration.{Reconfiguration}
 use Rattle.icn_world.specs.declared.restoring.Restored.{Restored}
 use Rattle.icn_world.specs.Halts.{halt_value}
 use Rattle.icn_world.specs.Kept.{IsKept}
@@ -120,7 +120,7 @@ module _ {may : List RuleValue → EntryValue → Type 0} (old : WorldValue) (d 
       (L : Log) → MayPass old L → Passes may old L bus (Err (halt_value h)) w b
   settle_halts {h = h} g L held = halts_by L [] (halt_value h) (goes_on (nothing_yet may old bus) g) (g.ends L [] [] (is_at_start old d begun nobody L held))
 
-  module _ {s : Settled} {w : WorldValue} {d1 : Disturbance} {b : BusValue} (g : Goes may IsAtStart IsSettled (Ok s) old w d d1 bus b) where
+  module _ {s : Reconfiguration} {w : WorldValue} {d1 : Disturbance} {b : BusValue} (g : Goes may IsAtStart IsSettled (Ok s) old w d d1 bus b) where
     n1 : Log
     n1 = [] ++ g.entries
 

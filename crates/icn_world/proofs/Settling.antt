@@ -28,7 +28,7 @@ use Rattle.world_traffic.specs.Reading.{got_of}
 use Rattle.icn_world.specs.Kept.{IsKept}
 use Rattle.icn_world.specs.Stages.{facts_in, Inside, IsAtStart, MayCarry, HasArrived}
 use Rattle.icn_world.specs.Settled.{MayEnter, IsToActive, nodes_received, AreOfCycle, IsDecided, IsSettled}
-use Rattle.icn_world.specs.declared.rounds.Settled.{Settled}
+use Rattle.icn_world.specs.declared.rounds.Reconfiguration.{Reconfiguration}
 use Rattle.icn_world.proofs.Entering.{handed_world}
 use Rattle.icn_world.proofs.Receiving.{early_received}
 use Rattle.icn_world.proofs.RoundNodes.{number_is}
@@ -171,12 +171,12 @@ Decides arrived old new =
     (L now : Log) (steps : Steps) → InCycle old.mission L now steps Round3 4 3 old → AreArrivals old.mission (L ++ now) old.done Round3 (got_of arrived) →
     InCycle old.mission L now steps Round3 4 4 new
 
-abbrev pub Settles : ArrivedValue → Settled → WorldValue → Type 0
+abbrev pub Settles : ArrivedValue → Reconfiguration → WorldValue → Type 0
 Settles arrived settled old =
     (L now : Log) (steps : Steps) → InCycle old.mission L now steps Round3 4 3 old → AreArrivals old.mission (L ++ now) old.done Round3 (got_of arrived) →
     AreOfCycle settled old.mission (L ++ now) old.done
 
-pub decides_rounds : (arrived : ArrivedValue) (settled : Settled) (old new : WorldValue) (d : Disturbance) → IsKept old new → Decides arrived old new → Settles arrived settled old →
+pub decides_rounds : (arrived : ArrivedValue) (settled : Reconfiguration) (old new : WorldValue) (d : Disturbance) → IsKept old new → Decides arrived old new → Settles arrived settled old →
     (L now : Log) (steps : Steps) → HasArrived Round3 arrived L now steps old d → IsDecided settled L now steps new d
 decides_rounds arrived settled old new d kept decides settles L now steps came =
     record {
@@ -189,7 +189,7 @@ decides_rounds arrived settled old new d kept decides settles L now steps came =
 -- ---- the tasks slot
 
 -- what was settled stays when the tasks slot is carried
-pub settled_stays : (settled : Settled) (arrived : ArrivedValue) (old new : WorldValue) (d d1 : Disturbance) → new.mission ≡ old.mission → new.done ≡ old.done →
+pub settled_stays : (settled : Reconfiguration) (arrived : ArrivedValue) (old new : WorldValue) (d d1 : Disturbance) → new.mission ≡ old.mission → new.done ≡ old.done →
     (L now more : Log) (steps : Steps) → IsDecided settled L now steps old d → HasArrived Tasks arrived L (now ++ more) steps new d1 →
     IsSettled settled L (now ++ more) steps new d1
 settled_stays settled arrived old new d d1 mission done L now more steps decided came =

@@ -14,7 +14,7 @@ use Rattle.guards_world.specs.NodeFacts.{received_through}
 use Rattle.guards_world.specs.Worlds.{WorldValue}
 use Rattle.fault_script.specs.declared.disturbance.Disturbance.{Disturbance}
 use Rattle.world_nodes.specs.NodeLists.{Bodies, with_exchanges}
-use Rattle.icn_world.specs.declared.rounds.Settled.{Settled}
+use Rattle.icn_world.specs.declared.rounds.Reconfiguration.{Reconfiguration}
 use Rattle.icn_world.specs.Stages.{facts_in, Inside}
 
 -- the slots before are done, and this one may be entered
@@ -34,17 +34,17 @@ nodes_received M L n round got nodes =
     if is_round e round then map (with_exchanges round e.active got (received_through M (cycles_before M L n) e round)) nodes else nodes
 
 -- by the facts of cycle n these channels are removed, and this is the transfer that runs
-pub record AreOfCycle (settled : Settled) (M : MissionValue) (L : Log) (n : ℕ) : Type 0 where
+pub record AreOfCycle (settled : Reconfiguration) (M : MissionValue) (L : Log) (n : ℕ) : Type 0 where
   pub removed : settled.removed ≡ (cycle_at M L n).removed
   pub transfer : transfer_of_pair settled.transfer ≡ (cycle_at M L n).transfer
 
 -- the rounds are over, and the running channels have decided
-pub record IsDecided (settled : Settled) (L now : Log) (steps : Steps) (w : WorldValue) (d : Disturbance) : Type 0 where
+pub record IsDecided (settled : Reconfiguration) (L now : Log) (steps : Steps) (w : WorldValue) (d : Disturbance) : Type 0 where
   pub stands : Inside Round3 4 4 L now steps w d
   pub settled_are : AreOfCycle settled w.mission (L ++ now) w.done
 
 -- and the tasks slot is entered, whose work is next
-pub record IsSettled (settled : Settled) (L now : Log) (steps : Steps) (w : WorldValue) (d : Disturbance) : Type 0 where
+pub record IsSettled (settled : Reconfiguration) (L now : Log) (steps : Steps) (w : WorldValue) (d : Disturbance) : Type 0 where
   pub stands : Inside Tasks 5 4 L now steps w d
   pub removed : settled.removed ≡ (facts_in w (L ++ now)).removed
   pub transfer : transfer_of_pair settled.transfer ≡ (facts_in w (L ++ now)).transfer

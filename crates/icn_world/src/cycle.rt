@@ -43,12 +43,12 @@ impl World {
             (with_halt_value result) self.new (record { log = B.log bus.new; script = B.script bus.new }) }
     {
         let mut disturbance = Disturbance::begin(self.active());
-        let settled = self.settle(alloc, bus, &mut disturbance)?;
+        let reconfiguration = self.settle(alloc, bus, &mut disturbance)?;
         let traces = self.work(rt, alloc, gate, natives)?;
         let lines = self.vote(alloc, bus, &mut disturbance)?;
-        let joining = targets(settled.transfer);
+        let joining = targets(reconfiguration.transfer);
         let restored = self.restore(alloc, bus, &mut disturbance, joining)?;
-        let part = self.record(&settled, lines, traces, &restored);
+        let part = self.record(&reconfiguration, lines, traces, &restored);
         self.end(&restored, &disturbance);
         Ok(part)
     }

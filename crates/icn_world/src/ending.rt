@@ -6,8 +6,9 @@ ghost use Rattle.world_laws.specs.Passing.{world_after};
 ghost use Rattle.icn_world.specs.Restored.{IsRestored};
 
 use crate::restoring::Restored;
-use crate::world::{LastCycle, World};
+use crate::world::World;
 use fault_script::Disturbance;
+use guards_base::Settled;
 
 impl World {
     // Ends the cycle: the switchboard closes, the removed channels rest, those that took a content run, and the ledger and
@@ -17,7 +18,7 @@ impl World {
         ensures { (L now : Log) (steps : Steps) → IsRestored restored.now L now steps self.old disturbance.now →
             self.new ≡ world_after self.old.mission L now steps self.old.done self.old.carried }
     {
-        let settled = LastCycle {
+        let settled = Settled {
             cycle: self.done,
             active: self.switchboard.on(),
             disturbed: disturbance.set(&self.ledger),

@@ -6,7 +6,7 @@ ghost use Rattle.guards_model.specs.Records.{transfer_of_pair};
 ghost use Rattle.icn_world.specs.Told.{of_channels_up};
 
 use crate::restoring::Restored;
-use crate::rounds::Settled;
+use crate::rounds::Reconfiguration;
 use crate::world::World;
 use fault_script::Ledger;
 use guards_base::{Chan, ChannelLine, CycleRecord, Lines, Mode, Traces};
@@ -36,7 +36,7 @@ impl World {
     // The record of the cycle, when its last slot is over.
     pub(crate) fn record(
         &self,
-        settled: &Settled,
+        reconfiguration: &Reconfiguration,
         lines: Lines,
         traces: Traces,
         restored: &Restored,
@@ -44,10 +44,10 @@ impl World {
         ensures { result ≡ record {
           cycle = self.now.done;
           active = self.now.switches;
-          transfer = transfer_of_pair settled.now.transfer;
+          transfer = transfer_of_pair reconfiguration.now.transfer;
           lines = of_channels_up self.now.ledger lines.items;
           traces = traces.items;
-          removed = settled.now.removed;
+          removed = reconfiguration.now.removed;
           joined = restored.now.joined;
           remaining = restored.now.remaining;
         } }
@@ -55,10 +55,10 @@ impl World {
         CycleRecord {
             cycle: self.done,
             active: self.switchboard.on(),
-            transfer: settled.transfer,
+            transfer: reconfiguration.transfer,
             lines: lines_that_run(lines, &self.ledger),
             traces,
-            removed: settled.removed,
+            removed: reconfiguration.removed,
             joined: restored.joined,
             remaining: restored.remaining,
         }

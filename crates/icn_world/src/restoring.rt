@@ -25,7 +25,7 @@ use world_nodes::Arrived;
 
 // What the slots leave: who is declared joined, how many blocks remain, who took a content, and the set that each channel
 // sent to the switchboard.
-#[derive(Drop)]
+#[derive(Clone, Copy)]
 pub(crate) struct Restored {
     pub(crate) joined: ChanSet,
     pub(crate) remaining: Option<u16>,

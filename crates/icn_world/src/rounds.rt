@@ -23,8 +23,8 @@ use std::alloc::Global;
 use world_traffic::Delivered;
 
 // What the rounds of a cycle settle: who is removed, and the targets and the start of the transfer that runs.
-#[derive(Drop)]
-pub(crate) struct Settled {
+#[derive(Clone, Copy)]
+pub(crate) struct Reconfiguration {
     pub(crate) removed: ChanSet,
     pub(crate) transfer: Option<(ChanSet, u32)>,
 }
@@ -128,7 +128,7 @@ impl World {
     }
 
     // The running channels decide by what they received, in the last round too. Answers what the first of them settled.
-    fn decide(&mut self, arrived: &Delivered) -> Settled
+    fn decide(&mut self, arrived: &Delivered) -> Reconfiguration
         requires { (L : Log) × (now : Log) × (steps : Steps) × InCycle self.old.mission L now steps Round3 4 3 self.old
             × AreArrivals self.old.mission (L ++ now) self.old.done Round3 (got_of arrived.now) }
         ensures kept { IsKept self.old self.new }
@@ -141,7 +141,7 @@ impl World {
     {
         self.receive(arrived, Slot::Round3);
         let removed = self.nodes.decide(&self.mission, self.done).unwrap();
-        Settled {
+        Reconfiguration {
             removed,
             transfer: self.nodes.transfer(),
         }
@@ -153,7 +153,7 @@ impl World {
         alloc: Global,
         bus: &mut B,
         disturbance: &mut Disturbance,
-    ) -> Result<Settled, Halt>
+    ) -> Result<Reconfiguration, Halt>
         requires { (L : Log) × (now : Log) × (steps : Steps) × MayEnter Round3 L now steps self.old disturbance.old }
         ensures { Goes B.may (MayEnter Round3) IsDecided result self.old self.new disturbance.old disturbance.new
             (record { log = B.log bus.old; script = B.script bus.old }) (record { log = B.log bus.new; script = B.script bus.new }) }
@@ -168,7 +168,7 @@ impl World {
         alloc: Global,
         bus: &mut B,
         disturbance: &mut Disturbance,
-    ) -> Result<Settled, Halt>
+    ) -> Result<Reconfiguration, Halt>
         requires { (L : Log) × (now : Log) × (steps : Steps) × IsAtStart L now steps self.old disturbance.old }
         ensures { Goes B.may IsAtStart IsSettled result self.old self.new disturbance.old disturbance.new
             (record { log = B.log bus.old; script = B.script bus.old }) (record { log = B.log bus.new; script = B.script bus.new }) }
@@ -176,8 +176,8 @@ impl World {
         self.ask(alloc, bus, disturbance)?;
         self.round(alloc, bus, Slot::Round1, disturbance)?;
         self.round(alloc, bus, Slot::Round2, disturbance)?;
-        let settled = self.last_round(alloc, bus, disturbance)?;
+        let reconfiguration = self.last_round(alloc, bus, disturbance)?;
         self.pass_slot(alloc, bus, Slot::Tasks, disturbance)?;
-        Ok(settled)
+        Ok(reconfiguration)
     }
 }

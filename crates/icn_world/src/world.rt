@@ -5,7 +5,7 @@ ghost use Rattle.icn_world.specs.declared.world.Halt.TheVariants.{NoMemory};
 
 use channel_node::Node;
 use fault_script::Ledger;
-use guards_base::{Chan, ChanSet};
+use guards_base::{Chan, ChanSet, Settled};
 use guards_model::Slot;
 use icn_bus::Switchboard;
 use mission_type::Mission;
@@ -35,24 +35,6 @@ impl From<AllocError> for Halt {
     }
 }
 
-/// The last finished cycle: its number, who was active, and who was disturbed at its end.
-#[derive(Clone, Copy, Debug, PartialEq, Eq)]
-pub struct LastCycle {
-    pub cycle: u32,
-    pub active: ChanSet,
-    pub disturbed: ChanSet,
-}
-
-impl Model for LastCycle {
-    ghost use Rattle.guards_model.specs.Settled.{SettledValue};
-
-    ghost Value = { SettledValue };
-
-    ghost view = { λ s. record { cycle = s.cycle; active = s.active; disturbed = s.disturbed } };
-
-    ghost inverse = { λ s. record { cycle = s.cycle; active = s.active; disturbed = s.disturbed } };
-}
-
 /// All nodes, of which there are as many as the mission has channels, the ledger and the switches. A spent world keeps its
 /// halt.
 #[derive(Drop)]
@@ -64,7 +46,7 @@ pub struct World {
     pub(crate) ledger: Ledger,
     pub(crate) switchboard: Switchboard,
     pub(crate) spent: Option<Halt>,
-    pub(crate) settled: Option<LastCycle>,
+    pub(crate) settled: Option<Settled>,
     ghost counted: { length nodes ≡ mission.rules.channels },
 }
 
@@ -120,7 +102,7 @@ impl World {
     }
 
     /// Who was active in the last finished cycle, and who was disturbed at its end; none before the first.
-    pub fn settled(&self) -> Option<LastCycle>
+    pub fn settled(&self) -> Option<Settled>
         ensures { result ≡ self.now.settled }
     {
         self.settled

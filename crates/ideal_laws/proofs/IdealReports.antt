@@ -30,15 +30,15 @@ unfolding shape
 part_by r = refl
 
 module _ (M : MissionValue) (L : Log) (mission : IsMission M) (faultless : IsFaultless M L) where
-  record TellsIdeal (n : ℕ) : Type 0 where
-    parts : text_of (cycle_parts false M [] (cycles_before M L n)) ≡ parts_below M n
-    context : ideal_after M (cycles_before M L n) ≡ ideal M n
+  pub record TellsIdeal (n : ℕ) : Type 0 where
+    pub parts : text_of (cycle_parts false M [] (cycles_before M L n)) ≡ parts_below M n
+    pub context : ideal_after M (cycles_before M L n) ≡ ideal M n
 
   module _ (n : ℕ) (run : CalmRun M L mission faultless n) (due : IsDueNow M (cycles_before M L n) (next_cycle M L (cycles_before M L n))) (early : n < M.cycles) (before : ideal_after M (cycles_before M L n) ≡ ideal M n) where
     abbrev e : Cycle
     e = next_cycle M L (cycles_before M L n)
 
-    part_is : part_text (cycle_part false (cycle_record M [] (length (cycles_before M L n)) e)) ≡ part M n
+    pub part_is : part_text (cycle_part false (cycle_record M [] (length (cycles_before M L n)) e)) ≡ part M n
     unfolding part record_text record_with shape
     part_is =
         let transferless = untransferred M L mission faultless n run.calm due early run.cycles in
@@ -52,7 +52,7 @@ module _ (M : MissionValue) (L : Log) (mission : IsMission M) (faultless : IsFau
         ∙ ap (λ s. shape n r.active None r.lines s e.joined None) (unremoved M L mission faultless n run.calm due early run.cycles)
         ∙ ap (λ s. shape n r.active None r.lines [] s None) (unjoined M L mission faultless n run.calm due early run.cycles))
 
-  tells : (n : ℕ) → n ≤ M.cycles → EachCycle (IsDueNow M) (cycles_before M L n) → TellsIdeal n
+  pub tells : (n : ℕ) → n ≤ M.cycles → EachCycle (IsDueNow M) (cycles_before M L n) → TellsIdeal n
   tells zero early due = record { parts = refl; context = refl }
   tells (suc n) early due =
       let before = tells n (omega (arith, early)) due.1 in

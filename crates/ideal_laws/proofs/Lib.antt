@@ -1,2 +1,3 @@
 pub mod QuietCycles
 pub mod IdealReports
+pub mod ActedIdeals

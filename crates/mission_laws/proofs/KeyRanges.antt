@@ -35,7 +35,7 @@ use Rattle.fault_text.proofs.SlotNames.{find_passes}
 use Rattle.fault_text.proofs.Fits.{script_fits}
 use Rattle.fault_text.proofs.Kept.{none_broken}
 use Rattle.mission_checks.specs.Checks as checks
-use Rattle.mission_checks.specs.Checks.{Checked, ◌>>=◌, fails, field, element, required, text_of, integer_of, table_of, array_of, only, demand, each, alone, integers, how_many}
+use Rattle.mission_checks.specs.Checks.{Checked, ◌>>=◌, fails, field, required, text_of, table_of, array_of, only, demand, alone, integers, how_many}
 use Rattle.mission_text.specs.declared.blocks.InitBlock.{InitBlock}
 use Rattle.mission_text.specs.Blocks.{init_block_at, init_blocks_at, with_blocks, initial_at, initial_or_zero, initial_field, is_init_block, is_block}
 use Rattle.mission_text.specs.Expressions.{expression_or, expression_at}

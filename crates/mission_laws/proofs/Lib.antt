@@ -3,4 +3,5 @@ pub mod Reading
 pub mod Passing
 pub mod CoreRanges
 pub mod KeyRanges
+pub mod ActuatorRanges
 pub mod WholeMission

@@ -1,5 +1,5 @@
 -- A mission that was read is a mission.
-use Rattle.std.proofs.Common.{◌≡◌, ℕ, ◌≤◌, true, List, [], Option, Some, None, Ok, codes, refl, subst}
+use Rattle.std.proofs.Common.{◌≡◌, ℕ, ◌≤◌, true, List, [], length, Option, Some, None, Ok, codes, refl, subst}
 use Rattle.std.specs.Prelude.{nat_le}
 use Rattle.std.specs.Str.{is_utf8}
 use Rattle.std.proofs.lemmas.Bool.{leb-true}
@@ -15,12 +15,14 @@ use Rattle.mission_text.specs.Blocks.{initial_field}
 use Rattle.mission_text.specs.Rows.{table_field}
 use Rattle.mission_text.specs.Outputs.{outputs_field}
 use Rattle.mission_text.specs.Sensors.{sensors_field}
+use Rattle.mission_text.specs.Actuators.{actuator_field}
 use Rattle.mission_text.specs.Mission.{document_keys, mission_after, mission_at, mission_of}
 use Rattle.mission_laws.specs.Integers.{members_hold_words}
 use Rattle.mission_laws.proofs.Reading.{document_holds}
 use Rattle.mission_laws.proofs.Passing.{Passes, passes_ok, passes_err, passes_if}
 use Rattle.mission_laws.proofs.CoreRanges.{CoreIn, core_in, core_parts}
 use Rattle.mission_laws.proofs.KeyRanges.{Gives, gives_then, outputs_in, table_in as whole_table_in, initial_in, sensors_in, script_in}
+use Rattle.mission_laws.proofs.ActuatorRanges.{actuator_in}
 
 gives_ok : (M : MissionValue) → IsMission M → Gives IsMission (Ok M)
 gives_ok M h N is = let e : M ≡ N = cc in subst IsMission e h
@@ -38,6 +40,7 @@ mission_is core known fields all =
     gives_then IsMission (outputs_field blocks width fields) _ (λ outputs c.
     gives_then IsMission (sensors_field channels width fields) _ (λ sensors d.
     gives_then IsMission (script_field channels core.sizes.cycles blocks fields) _ (λ script e.
+    gives_then IsMission (actuator_field (length outputs) fields) _ (λ actuator g.
     let M : MissionValue = record {
       rules = rules_of core;
       cycles = core.sizes.cycles;
@@ -48,7 +51,7 @@ mission_is core known fields all =
       outputs = outputs;
       sensors = sensors;
       script = script;
-      actuator = None;
+      actuator = actuator;
     } in
     gives_ok M (record {
       rules = known.rules;
@@ -60,8 +63,8 @@ mission_is core known fields all =
       outputs = outputs_in blocks width few fields all outputs c;
       sensors = sensors_in channels width fields all sensors d;
       script = script_in channels core.sizes.cycles blocks fields all script e M refl refl refl;
-      actuator = refl;
-    }))))))
+      actuator = actuator_in (length outputs) fields all actuator g;
+    })))))))
 
 document_is : (fields : Members) → members_hold_words fields ≡ true → Gives IsMission (mission_at fields)
 unfolding mission_at

@@ -1,10 +1,10 @@
-//! A mission with every key, and what is answered where texts in it are replaced.
+//! A mission with every key but the actuator's, and what is answered where texts in it are replaced.
 
 use mission_text::{Cause, ReadFault, read};
 use std::alloc::Global;
 use std::test::Fail;
 
-// A mission with every key.
+// A mission with every key but the actuator's.
 pub(crate) const MISSION: &str = "outputs = [\"b0.0\", \" ( b1.2 ) \"]
 table = [[\"sum\", \"keep\"], [], [\"keep\"]]
 sensors = [[[1, 2], [3, 4], [5, 6]], [[-1, -2], [-3, -4], [-5, -6]]]

@@ -3,6 +3,8 @@
 #![tactic(auto)]
 
 #[cfg(test)]
+mod actuator_rows;
+#[cfg(test)]
 mod answers;
 #[cfg(test)]
 mod core_rows;

@@ -1,16 +1,18 @@
 -- A command is carried out to its end, unless memory runs out, a fault comes or a slot stops the run.
-use Rattle.std.proofs.Common.{◌≡◌, ◌≤◌, ◌⊎◌, ◌-◌, inl, inr, ℕ, Bool, List, ◌++◌, length, Option, Some, None, Ok, refl, sym, ap, subst, ◌∙◌, arith}
+use Rattle.std.proofs.Common.{◌≡◌, ◌≤◌, ◌⊎◌, inl, inr, ℕ, Bool, List, ◌++◌, length, Option, Some, None, Ok, refl, sym, ap, subst, ◌∙◌}
 use Rattle.std.proofs.Math.Seq.{drop-append_seam}
 use Rattle.std.specs.Prelude.{drop}
 use Rattle.guards_io.specs.Causes.{Rose}
 use Rattle.guards_model.specs.BusRules.{RuleValue}
-use Rattle.guards_model.specs.Missions.{MissionValue}
+use Rattle.guards_model.specs.Missions.{ActuatorValue, MissionValue}
 use Rattle.guards_model.specs.Network.{EntryValue, Log}
 use Rattle.guards_model.specs.Rounds.{Histories}
 use Rattle.guards_model.specs.Texts.{StopValue}
 use Rattle.guards_runs.specs.Cycles.{cycles_before}
 use Rattle.guards_runs.specs.Disturbed.{stop_of}
-use Rattle.guards_laws.proofs.FirstStop.{stop_stays}
+use Rattle.guards_runs.specs.ActedReport.{first_stop, stop_with}
+use Rattle.acted_runs.specs.Driving.{RunStopped}
+use Rattle.acted_runs.proofs.Ends.{this_stop}
 use Rattle.guards_world.specs.WorldCycle.{BusValue}
 use Rattle.demo_mission.specs.Demo.{demo_mission}
 use Rattle.mission_text.specs.Mission.{mission_of}
@@ -18,7 +20,7 @@ use Rattle.ideal_run.specs.Writes.{SinkView}
 use Rattle.check_text.specs.Check.{check_of}
 use Rattle.command_words.specs.declared.command.Command.{Command}
 use Rattle.command_words.specs.declared.command.Command.TheVariants as command
-use Rattle.run_laws.specs.Runs.{Ran, RanToStop}
+use Rattle.run_laws.specs.Runs.{Ran}
 use Rattle.world_run.specs.Running.{stop_value}
 use Rattle.mission_run.specs.declared.limit.TheConstants.{LIMIT}
 use Rattle.mission_run.specs.declared.status.Status.{Status}
@@ -34,38 +36,37 @@ same_entries log K L h = sym (drop-append_seam log K) ∙ ap (drop (length log))
 
 module _ (may : List RuleValue → EntryValue → Type 0) (M : MissionValue) (bus bus' : BusValue) where
   -- a run whose entries stop in no cycle does not stop
-  not_stopped : (K L : Log) (stop : StopValue) (histories : Histories) → Ran may M bus bus' K → RanToStop M stop.cycle stop K histories → bus'.log ≡ bus.log ++ L → stop_of (cycles_before M L M.cycles) ≡ None → ⊥
-  not_stopped K L stop histories ran stopped grew goes_on =
+  not_stopped : (o : Option ActuatorValue) (K L : Log) (stop : StopValue) (histories : Histories) → Ran may M bus bus' K → RunStopped o M stop.cycle stop K histories → bus'.log ≡ bus.log ++ L → stop_with o M L ≡ None → ⊥
+  not_stopped o K L stop histories ran stopped grew goes_on =
       let same : K ≡ L = same_entries bus.log K L (sym ran.log ∙ grew) in
-      let unstopped : stop_of (cycles_before M K M.cycles) ≡ None = ap (λ entries. stop_of (cycles_before M entries M.cycles)) same ∙ goes_on in
-      let stays = stop_stays M K stop.cycle stop stopped.unstopped stopped.stopped (M.cycles - stop.cycle - 1) M.cycles (omega (arith, stopped.within)) in
-      cc (sym unstopped ∙ stays)
+      let unstopped : stop_with o M K ≡ None = ap (stop_with o M) same ∙ goes_on in
+      cc (sym unstopped ∙ this_stop M K histories o stop.cycle stop stopped)
 
-  run_to_end : (trace : Bool) (out out' : SinkView) (status : Status) (L : Log) → RunsMission may trace M bus bus' out out' status → bus'.log ≡ bus.log ++ L → stop_of (cycles_before M L M.cycles) ≡ None →
+  run_to_end : (trace : Bool) (out out' : SinkView) (status : Status) (L : Log) → RunsMission may trace M bus bus' out out' status → bus'.log ≡ bus.log ++ L → first_stop M L ≡ None →
       (Rose out.faults out'.faults → ⊥) → (status ≡ Done) ⊎ (status ≡ NoMemory)
   run_to_end trace out out' Done L ran grew goes_on no_write = inl refl
   run_to_end trace out out' NoMemory L ran grew goes_on no_write = inr refl
   run_to_end trace out out' WriteFault L ran grew goes_on no_write = absurd (no_write ran.6)
   run_to_end trace out out' (TooManyDisturbed cycle slot set active) L ran grew goes_on no_write =
-      absurd (not_stopped ran.0 L (stop_value cycle slot set active) ran.1 ran.3 ran.4 grew goes_on)
+      absurd (not_stopped M.actuator ran.0 L (stop_value cycle slot set active) ran.1 ran.3 ran.4 grew goes_on)
   run_to_end trace out out' Usage L ran grew goes_on no_write = absurd ran
   run_to_end trace out out' (BadMission why) L ran grew goes_on no_write = absurd ran
   run_to_end trace out out' TooLong L ran grew goes_on no_write = absurd ran
   run_to_end trace out out' ReadFault L ran grew goes_on no_write = absurd ran
 
-  last_to_end : (k : ℕ) (trace : Bool) (out out' : SinkView) (status : Status) (L : Log) → RunsMissionLast may k trace M bus bus' out out' status → bus'.log ≡ bus.log ++ L → stop_of (cycles_before M L M.cycles) ≡ None →
+  last_to_end : (k : ℕ) (trace : Bool) (out out' : SinkView) (status : Status) (L : Log) → RunsMissionLast may k trace M bus bus' out out' status → bus'.log ≡ bus.log ++ L → first_stop M L ≡ None →
       (Rose out.faults out'.faults → ⊥) → (status ≡ Done) ⊎ (status ≡ NoMemory)
   last_to_end k trace out out' Done L ran grew goes_on no_write = inl refl
   last_to_end k trace out out' NoMemory L ran grew goes_on no_write = inr refl
   last_to_end k trace out out' WriteFault L ran grew goes_on no_write = absurd (no_write ran.5)
   last_to_end k trace out out' (TooManyDisturbed cycle slot set active) L ran grew goes_on no_write =
-      absurd (not_stopped ran.0 L (stop_value cycle slot set active) ran.1 ran.3 ran.4 grew goes_on)
+      absurd (not_stopped M.actuator ran.0 L (stop_value cycle slot set active) ran.1 ran.3 ran.4 grew goes_on)
   last_to_end k trace out out' Usage L ran grew goes_on no_write = absurd ran
   last_to_end k trace out out' (BadMission why) L ran grew goes_on no_write = absurd ran
   last_to_end k trace out out' TooLong L ran grew goes_on no_write = absurd ran
   last_to_end k trace out out' ReadFault L ran grew goes_on no_write = absurd ran
 
-  told_to_its_end : (last : Option ℕ) (trace : Bool) (out out' : SinkView) (status : Status) (L : Log) → RunsTold may last trace M bus bus' out out' status → bus'.log ≡ bus.log ++ L → stop_of (cycles_before M L M.cycles) ≡ None →
+  told_to_its_end : (last : Option ℕ) (trace : Bool) (out out' : SinkView) (status : Status) (L : Log) → RunsTold may last trace M bus bus' out out' status → bus'.log ≡ bus.log ++ L → first_stop M L ≡ None →
       (Rose out.faults out'.faults → ⊥) → (status ≡ Done) ⊎ (status ≡ NoMemory)
   told_to_its_end None trace out out' status L ran grew goes_on no_write = run_to_end trace out out' status L ran grew goes_on no_write
   told_to_its_end (Some k) trace out out' status L ran grew goes_on no_write = last_to_end k trace out out' status L ran grew goes_on no_write
@@ -76,7 +77,7 @@ demo_to_end may number bus bus' out out' Done L ran grew goes_on no_write = inl 
 demo_to_end may number bus bus' out out' NoMemory L ran grew goes_on no_write = inr refl
 demo_to_end may number bus bus' out out' WriteFault L ran grew goes_on no_write = absurd (no_write ran.5)
 demo_to_end may number bus bus' out out' (TooManyDisturbed cycle slot set active) L ran grew goes_on no_write =
-    absurd (not_stopped may (demo_mission number) bus bus' ran.0 L (stop_value cycle slot set active) ran.1 ran.2 ran.3 grew goes_on)
+    absurd (not_stopped may (demo_mission number) bus bus' None ran.0 L (stop_value cycle slot set active) ran.1 ran.2 ran.3 grew goes_on)
 demo_to_end may number bus bus' out out' Usage L ran grew goes_on no_write = absurd ran
 demo_to_end may number bus bus' out out' (BadMission why) L ran grew goes_on no_write = absurd ran
 demo_to_end may number bus bus' out out' TooLong L ran grew goes_on no_write = absurd ran

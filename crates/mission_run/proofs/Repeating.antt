@@ -1,27 +1,31 @@
 -- What `run` and `demo` answer and write is what any run of the mission over the scripted bus tells that came to its end.
-use Rattle.std.proofs.Common.{◌≡◌, ◌⊎◌, ◌-◌, inl, inr, ℕ, true, false, List, Option, None, ◌++◌, Some, refl, sym, ap, subst, ◌∙◌, arith}
+use Rattle.std.proofs.Common.{◌≡◌, ◌⊎◌, ◌-◌, inl, inr, ℕ, true, false, List, [], Option, None, ◌++◌, Some, refl, sym, ap, subst, ◌∙◌}
 use Rattle.std.specs.List.{AllByRecursion, AllZip}
 use Rattle.std.specs.Io.KnownBytes.{Appends}
 use Rattle.guards_io.specs.Causes.{Rose}
 use Rattle.guards_model.specs.declared.Slot.TheVariants.{Sweep}
 use Rattle.guards_model.specs.BusRules.{RuleValue, lose}
-use Rattle.guards_model.specs.Missions.{MissionValue, bus_rules}
-use Rattle.guards_model.specs.Network.{EntryValue, Log}
+use Rattle.guards_model.specs.Missions.{ActuatorValue, MissionValue, bus_rules}
+use Rattle.guards_model.specs.Network.{EntryValue, Log, without_outputs}
 use Rattle.guards_model.specs.Rounds.{Histories}
 use Rattle.guards_model.specs.ScriptedBus.{IsScripted}
 use Rattle.guards_model.specs.Texts.{Part, TextValue, StopValue, stop_line, text_of}
 use Rattle.guards_model.proofs.Membership.{All-weaker}
 use Rattle.guards_runs.specs.Cycles.{cycles_before, cycle_at}
-use Rattle.guards_runs.specs.Disturbed.{stop_of}
 use Rattle.guards_runs.specs.Due.{IsDue, carries_through}
 use Rattle.guards_runs.specs.Promises.{IsRun}
-use Rattle.guards_runs.specs.Report.{report}
+use Rattle.guards_runs.specs.ActedReport.{stop_with}
 use Rattle.guards_laws.proofs.LogGrows.{length-cycles_before}
 use Rattle.script_laws.specs.Scripts.{ForgesNoSweep, StopsAt, IsScriptedRun}
-use Rattle.guards_laws.proofs.FirstStop.{stop_stays}
 use Rattle.script_laws.proofs.Reports.{stops_alike, parts_alike, reports_alike}
 use Rattle.guards_world.specs.WorldCycle.{BusValue}
-use Rattle.run_laws.specs.Runs.{Ran, RanCycles, RanToStop, shortened}
+use Rattle.run_laws.specs.Runs.{Ran, shortened, with_unfinished}
+use Rattle.acted_runs.specs.Acting.{ActedToStop}
+use Rattle.acted_runs.specs.Driving.{CyclesRan, RunStopped}
+use Rattle.acted_runs.proofs.Ends.{short_untraced, text_untraced, this_stop, whole_stop}
+use Rattle.acted_scripts.specs.ActedScripts.{IsActedRun, IsScriptedWith, StopsActing}
+use Rattle.acted_scripts.proofs.ActedLogs.{acted_by}
+use Rattle.acted_scripts.proofs.ActedEnds.{reports_alike as acted_reports_alike, run_parts_alike, stops_alike as acted_stops_alike}
 use Rattle.run_laws.specs.Summaries.{summary}
 use Rattle.run_laws.proofs.Standing.{due_by, each_due}
 use Rattle.world_run.specs.Running.{stop_value, Refuses, EndsWith}
@@ -41,17 +45,38 @@ use Rattle.mission_run.proofs.DemoTexts.{demo_texts_alike}
 
 -- ---- a run that came to its end
 
+-- with an actuator, what was made up to a stop is due
+pub stopped_acting : (M : MissionValue) (a : ActuatorValue) (L : Log) (stop : StopValue) (histories : Histories) → ActedToStop M a stop.cycle stop L (without_outputs L) histories → StopsActing M (without_outputs L) L stop
+stopped_acting M a L stop histories to =
+    let past = cycles_before M (without_outputs L) stop.cycle in
+    let e = cycle_at M (without_outputs L) stop.cycle in
+    record {
+      within = to.within;
+      before = to.before;
+      now = to.now;
+      outs = to.outs;
+      entries = to.entries;
+      due = acted_by M histories past to.before to.acted;
+      due_now = each_due M past e to.steps (carries_through stop.cycle e stop.slot) to.now to.due_now;
+      due_outs = to.due_outs;
+      unstopped = to.unstopped;
+      stopped = to.stopped;
+    }
+
 module _ (may : List RuleValue → EntryValue → Type 0) (does : DoesScript may) (M : MissionValue) (bus bus' : BusValue) (L : Log) (histories : Histories) (ran : Ran may M bus bus' L) where
   pub scripted : AllByRecursion (IsScripted (bus_rules M)) L
   scripted = All-weaker (may (bus_rules M)) (IsScripted (bus_rules M)) L (does (bus_rules M)) ran.each
 
-  whole_ends : RanCycles M M.cycles L histories → IsScriptedRun M L
-  whole_ends cycles =
+  whole_ends : (o : Option ActuatorValue) → CyclesRan o M M.cycles L histories → IsScriptedWith o M L
+  whole_ends None cycles =
       let run : IsRun M L M.cycles = record { due = due_by M histories (cycles_before M L M.cycles) L cycles.due; unstopped = cycles.unstopped } in
       (scripted, inl run)
+  whole_ends (Some a) cycles =
+      let run : IsActedRun M (without_outputs L) L M.cycles = record { due = acted_by M histories (cycles_before M (without_outputs L) M.cycles) L cycles.acted; unstopped = cycles.unstopped } in
+      (scripted, inl run)
 
-  stop_ends : (stop : StopValue) → RanToStop M stop.cycle stop L histories → IsScriptedRun M L
-  stop_ends stop to =
+  stop_ends : (o : Option ActuatorValue) (stop : StopValue) → RunStopped o M stop.cycle stop L histories → IsScriptedWith o M L
+  stop_ends None stop to =
       let past = cycles_before M L stop.cycle in
       let e = cycle_at M L stop.cycle in
       let now : AllZip (IsDue M past e) (carries_through stop.cycle e stop.slot) to.now = each_due M past e to.steps (carries_through stop.cycle e stop.slot) to.now to.due_now in
@@ -69,54 +94,64 @@ module _ (may : List RuleValue → EntryValue → Type 0) (does : DoesScript may
         stopped = to.stopped;
       } in
       (scripted, inr (stop, stopped))
+  stop_ends (Some a) stop to = (scripted, inr (stop, stopped_acting M a L stop histories to))
 
 -- ---- what is answered and written
 
-stop_told : (M : MissionValue) (L : Log) (stop : StopValue) (histories : Histories) → RanToStop M stop.cycle stop L histories → stop_of (cycles_before M L M.cycles) ≡ Some stop
-stop_told M L stop histories to =
-    stop_stays M L stop.cycle stop to.unstopped to.stopped (M.cycles - stop.cycle - 1) M.cycles (omega (arith, to.within))
+-- two such runs have the same stop, or none
+same_end : (o : Option ActuatorValue) (M : MissionValue) (L K : Log) → ForgesNoSweep (bus_rules M) → IsScriptedWith o M L → IsScriptedWith o M K → stop_with o M L ≡ stop_with o M K
+same_end None M L K none run_l run_k = stops_alike M L K none run_l run_k
+same_end (Some a) M L K none run_l run_k = acted_stops_alike M L K none run_l run_k
 
 -- what a run that came to its end told, each other tells, where two such runs have the same text
-module _ (may : List RuleValue → EntryValue → Type 0) (does : DoesScript may) (M : MissionValue) (none : ForgesNoSweep (bus_rules M)) (text : MissionValue → Log → TextValue)
-    (same_text : (L K : Log) → IsScriptedRun M L → IsScriptedRun M K → text M L ≡ text M K) (bus bus' : BusValue) (out out' : SinkView) where
-  tells : (L : Log) (status : Status) → bus'.log ≡ bus.log ++ L → IsScriptedRun M L → status ≡ status_of_end (stop_of (cycles_before M L M.cycles)) →
-      Appends out.written out'.written (text M L) → TellsAsAny text M bus bus' out out' status
+module _ (may : List RuleValue → EntryValue → Type 0) (does : DoesScript may) (o : Option ActuatorValue) (M : MissionValue) (none : ForgesNoSweep (bus_rules M)) (text : MissionValue → Log → TextValue)
+    (same_text : (L K : Log) → IsScriptedWith o M L → IsScriptedWith o M K → text M L ≡ text M K) (bus bus' : BusValue) (out out' : SinkView) where
+  tells : (L : Log) (status : Status) → bus'.log ≡ bus.log ++ L → IsScriptedWith o M L → status ≡ status_of_end (stop_with o M L) →
+      Appends out.written out'.written (text M L) → TellsAsAny o text M bus bus' out out' status
   tells L status grew run is wrote = (
     (L, grew, run),
     λ K run_k. (
-      is ∙ ap status_of_end (stops_alike M L K none run run_k),
+      is ∙ ap status_of_end (same_end o M L K none run run_k),
       subst (Appends out.written out'.written) (same_text L K run run_k) wrote,
     ),
   )
 
-  told_whole : (L : Log) (histories : Histories) → Ran may M bus bus' L → RanCycles M M.cycles L histories → Appends out.written out'.written (text M L) → TellsAsAny text M bus bus' out out' Done
+  told_whole : (L : Log) (histories : Histories) → Ran may M bus bus' L → CyclesRan o M M.cycles L histories → Appends out.written out'.written (text M L) → TellsAsAny o text M bus bus' out out' Done
   told_whole L histories ran cycles wrote =
-      tells L Done ran.log (whole_ends may does M bus bus' L histories ran cycles) (sym (ap status_of_end cycles.unstopped)) wrote
+      tells L Done ran.log (whole_ends may does M bus bus' L histories ran o cycles) (sym (ap status_of_end (whole_stop M L histories o cycles))) wrote
 
-  told_stop : (L : Log) (stop : StopValue) (histories : Histories) → Ran may M bus bus' L → RanToStop M stop.cycle stop L histories → Appends out.written out'.written (text M L) →
-      TellsAsAny text M bus bus' out out' (TooManyDisturbed stop.cycle stop.slot stop.set stop.active)
+  told_stop : (L : Log) (stop : StopValue) (histories : Histories) → Ran may M bus bus' L → RunStopped o M stop.cycle stop L histories → Appends out.written out'.written (text M L) →
+      TellsAsAny o text M bus bus' out out' (TooManyDisturbed stop.cycle stop.slot stop.set stop.active)
   told_stop L stop histories ran to wrote =
-      tells L (TooManyDisturbed stop.cycle stop.slot stop.set stop.active) ran.log (stop_ends may does M bus bus' L histories ran stop to)
-      (sym (ap status_of_end (stop_told M L stop histories to))) wrote
+      tells L (TooManyDisturbed stop.cycle stop.slot stop.set stop.active) ran.log (stop_ends may does M bus bus' L histories ran o stop to)
+      (sym (ap status_of_end (this_stop M L histories o stop.cycle stop to))) wrote
+
+-- two such runs have the same text
+report_alike : (o : Option ActuatorValue) (last : Option ℕ) (M : MissionValue) (L K : Log) → ForgesNoSweep (bus_rules M) → IsScriptedWith o M L → IsScriptedWith o M K → told_report o last M L ≡ told_report o last M K
+report_alike None None M L K none run_l run_k = reports_alike M L K none run_l run_k
+report_alike (Some a) None M L K none run_l run_k = acted_reports_alike M L K none run_l run_k a
+report_alike None (Some k) M L K none run_l run_k = ap (λ (parts : List Part). text_of (shortened k parts)) (parts_alike M L K none run_l run_k)
+report_alike (Some a) (Some k) M L K none run_l run_k = ap (λ (parts : List Part). text_of (shortened k parts)) (run_parts_alike M L K none run_l run_k a)
 
 module _ (may : List RuleValue → EntryValue → Type 0) (does : DoesScript may) (bus bus' : BusValue) (out out' : SinkView) (no_write : Rose out.faults out'.faults → ⊥) where
   -- ---- `run`
 
   module _ (M : MissionValue) (none : ForgesNoSweep (bus_rules M)) where
-    run_text_alike : (L K : Log) → IsScriptedRun M L → IsScriptedRun M K → report M L ≡ report M K
-    run_text_alike L K run_l run_k = reports_alike M L K none run_l run_k
+    abbrev o : Option ActuatorValue
+    o = M.actuator
 
     report_ended : (before : TextValue) (stop : StopValue) → EndsWith out out' before (stop_line stop) → Appends out.written out'.written (before ++ stop_line stop)
     report_ended before stop (inl all) = all.0
     report_ended before stop (inr front) = absurd (no_write front.5)
 
-    run_repeats : (status : Status) → RunsMission may false M bus bus' out out' status → (status ≡ NoMemory) ⊎ TellsAsAny report M bus bus' out out' status
+    run_repeats : (status : Status) → RunsMission may false M bus bus' out out' status → (status ≡ NoMemory) ⊎ TellsAsAny o (told_report o None) M bus bus' out out' status
     run_repeats Done (L, histories, ran, cycles, wrote, quiet) =
-        inr (told_whole may does M none report run_text_alike bus bus' out out' L histories ran cycles wrote)
+        inr (told_whole may does o M none (told_report o None) (λ L K run_l run_k. report_alike o None M L K none run_l run_k) bus bus' out out' L histories ran cycles
+        (subst (Appends out.written out'.written) (text_untraced M L histories o []) wrote))
     run_repeats (TooManyDisturbed cycle slot set active) (L, histories, before, ran, to, text, ends) =
         let stop = stop_value cycle slot set active in
-        inr (told_stop may does M none report run_text_alike bus bus' out out' L stop histories ran to
-        (subst (Appends out.written out'.written) (sym text) (report_ended before stop ends)))
+        inr (told_stop may does o M none (told_report o None) (λ L K run_l run_k. report_alike o None M L K none run_l run_k) bus bus' out out' L stop histories ran to
+        (subst (Appends out.written out'.written) (sym text ∙ text_untraced M L (with_unfinished (M.cycles - cycle) histories) o []) (report_ended before stop ends)))
     run_repeats NoMemory ran = inl refl
     run_repeats WriteFault ran = absurd (no_write ran.6)
     run_repeats Usage ran = absurd ran
@@ -128,22 +163,23 @@ module _ (may : List RuleValue → EntryValue → Type 0) (does : DoesScript may
 
     module _ (k : ℕ) where
       abbrev short_report : MissionValue → Log → TextValue
-      short_report M L = told_report (Some k) M L
+      short_report M L = told_report o (Some k) M L
 
-      short_alike : (L K : Log) → IsScriptedRun M L → IsScriptedRun M K → short_report M L ≡ short_report M K
-      short_alike L K run_l run_k = ap (λ (parts : List Part). text_of (shortened k parts)) (parts_alike M L K none run_l run_k)
+      short_alike : (L K : Log) → IsScriptedWith o M L → IsScriptedWith o M K → short_report M L ≡ short_report M K
+      short_alike L K run_l run_k = report_alike o (Some k) M L K none run_l run_k
 
       line_ended : (text : TextValue) → Refuses out out' text → Appends out.written out'.written text
       line_ended text (inl all) = all.0
       line_ended text (inr front) = absurd (no_write front.1)
 
-      last_repeats : (status : Status) → RunsMissionLast may k false M bus bus' out out' status → (status ≡ NoMemory) ⊎ TellsAsAny short_report M bus bus' out out' status
+      last_repeats : (status : Status) → RunsMissionLast may k false M bus bus' out out' status → (status ≡ NoMemory) ⊎ TellsAsAny o short_report M bus bus' out out' status
       last_repeats Done (L, histories, ran, cycles, wrote, quiet) =
-          inr (told_whole may does M none short_report short_alike bus bus' out out' L histories ran cycles wrote)
+          inr (told_whole may does o M none short_report short_alike bus bus' out out' L histories ran cycles
+          (subst (Appends out.written out'.written) (short_untraced M L histories k o []) wrote))
       last_repeats (TooManyDisturbed cycle slot set active) (L, histories, before, ran, to, text, ends) =
           let stop = stop_value cycle slot set active in
-          inr (told_stop may does M none short_report short_alike bus bus' out out' L stop histories ran to
-          (subst (Appends out.written out'.written) (sym text) (line_ended (before ++ stop_line stop) ends)))
+          inr (told_stop may does o M none short_report short_alike bus bus' out out' L stop histories ran to
+          (subst (Appends out.written out'.written) (sym text ∙ short_untraced M L (with_unfinished (M.cycles - cycle) histories) k o []) (line_ended (before ++ stop_line stop) ends)))
       last_repeats NoMemory ran = inl refl
       last_repeats WriteFault ran = absurd (no_write ran.5)
       last_repeats Usage ran = absurd ran
@@ -151,7 +187,7 @@ module _ (may : List RuleValue → EntryValue → Type 0) (does : DoesScript may
       last_repeats TooLong ran = absurd ran
       last_repeats ReadFault ran = absurd ran
 
-    told_repeats : (last : Option ℕ) (status : Status) → RunsTold may last false M bus bus' out out' status → (status ≡ NoMemory) ⊎ TellsAsAny (told_report last) M bus bus' out out' status
+    told_repeats : (last : Option ℕ) (status : Status) → RunsTold may last false M bus bus' out out' status → (status ≡ NoMemory) ⊎ TellsAsAny o (told_report o last) M bus bus' out out' status
     told_repeats None status ran = run_repeats status ran
     told_repeats (Some k) status ran = last_repeats k status ran
 
@@ -171,14 +207,14 @@ module _ (may : List RuleValue → EntryValue → Type 0) (does : DoesScript may
     line_written stop (inl all) = all.0
     line_written stop (inr front) = absurd (no_write front.1)
 
-    demo_repeats : (status : Status) → RunsDemo may number bus bus' out out' status → (status ≡ NoMemory) ⊎ TellsAsAny (demo_text number) D bus bus' out out' status
+    demo_repeats : (status : Status) → RunsDemo may number bus bus' out out' status → (status ≡ NoMemory) ⊎ TellsAsAny None (demo_text number) D bus bus' out out' status
     demo_repeats Done (L, histories, ran, cycles, wrote, quiet) =
-        inr (told_whole may does D forges_none (demo_text number) demo_text_alike bus bus' out out' L histories ran cycles
+        inr (told_whole may does None D forges_none (demo_text number) demo_text_alike bus bus' out out' L histories ran cycles
         (subst (Appends out.written out'.written) (sym (ap (text_or_stop (summary number D L)) cycles.unstopped)) wrote))
     demo_repeats (TooManyDisturbed cycle slot set active) (L, histories, ran, to, line) =
         let stop = stop_value cycle slot set active in
-        inr (told_stop may does D forges_none (demo_text number) demo_text_alike bus bus' out out' L stop histories ran to
-        (subst (Appends out.written out'.written) (sym (ap (text_or_stop (summary number D L)) (stop_told D L stop histories to))) (line_written stop line)))
+        inr (told_stop may does None D forges_none (demo_text number) demo_text_alike bus bus' out out' L stop histories ran to
+        (subst (Appends out.written out'.written) (sym (ap (text_or_stop (summary number D L)) (this_stop D L histories None stop.cycle stop to))) (line_written stop line)))
     demo_repeats NoMemory ran = inl refl
     demo_repeats WriteFault ran = absurd (no_write ran.5)
     demo_repeats Usage ran = absurd ran

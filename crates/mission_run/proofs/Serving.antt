@@ -1,6 +1,6 @@
 -- A run over a bus whose rules were just loaded is a run from before.
 use Rattle.std.proofs.Common.{◌≡◌, ◌++◌, inr, ℕ, Bool, true, false, List, [], Option, Some, None, Result, Ok, Err, refl, ap, ◌∙◌}
-use Rattle.std.specs.Prelude.{OnOk, OnErr, is_err}
+use Rattle.std.specs.Prelude.{OnOk, OnErr, is_err, option_map}
 use Rattle.guards_model.specs.BusRules.{RuleValue}
 use Rattle.guards_model.specs.Missions.{MissionValue, IsMission, bus_rules}
 use Rattle.guards_model.specs.Network.{EntryValue, Log}
@@ -11,6 +11,8 @@ use Rattle.ideal_run.specs.declared.output.WriteStop.TheVariants as write
 use Rattle.run_laws.specs.Runs.{Ran}
 use Rattle.run_laws.proofs.Passing.{begins, ran_short}
 use Rattle.guards_world.specs.Worlds.{first_world}
+use Rattle.acted_runs.specs.Driving.{first_gate}
+use Rattle.acted_runs.proofs.Driving.{mission_begins}
 use Rattle.world_run.specs.declared.stop.RunStop.{RunStop}
 use Rattle.world_run.specs.declared.stop.RunStop.TheVariants as stop
 use Rattle.world_run.specs.Running.{Runs, bus_value}
@@ -36,13 +38,13 @@ module _ (may : List RuleValue → EntryValue → Type 0) (M : MissionValue) (bu
   moved : (after : BusValue) (L : Log) → Ran may M loaded after L → Ran may M bus after L
   moved after L ran = record { log = ran.log ∙ ap (λ log. log ++ L) same; script = ran.script; each = ran.each }
 
-  pub run_from : (trace : Bool) (after : BusValue) (out out' : SinkView) (r : Result (Unit {0}) RunStop) → Runs may trace M loaded after out out' r → RunsMission may trace M bus after out out' (status_of r)
+  pub run_from : (trace : Bool) (after : BusValue) (out out' : SinkView) (r : Result (Unit {0}) RunStop) → Runs may trace M M.actuator loaded after out out' r → RunsMission may trace M bus after out out' (status_of r)
   run_from trace after out out' (Ok _) r = (r.0, r.1, moved after r.0 r.2, r.3, r.4, r.5)
   run_from trace after out out' (Err (stop.Disturbed cycle slot set active)) r = (r.0, r.1, r.2, moved after r.0 r.3, r.4, r.5, r.6)
   run_from trace after out out' (Err stop.WriteFault) r = (r.0, r.1, r.2, moved after r.0 r.3, r.4, r.5, r.6)
   run_from trace after out out' (Err stop.NoMemory) r = inr (r.0, r.1, r.2, moved after r.0 r.3, r.4, r.5, r.6)
 
-  pub last_from : (k : ℕ) (trace : Bool) (after : BusValue) (out out' : SinkView) (r : Result (Unit {0}) RunStop) → RunsLast may k trace M loaded after out out' r → RunsMissionLast may k trace M bus after out out' (status_of r)
+  pub last_from : (k : ℕ) (trace : Bool) (after : BusValue) (out out' : SinkView) (r : Result (Unit {0}) RunStop) → RunsLast may k trace M M.actuator loaded after out out' r → RunsMissionLast may k trace M bus after out out' (status_of r)
   last_from k trace after out out' (Ok _) r = (r.0, r.1, moved after r.0 r.2, r.3, r.4, r.5)
   last_from k trace after out out' (Err (stop.Disturbed cycle slot set active)) r = (r.0, r.1, r.2, moved after r.0 r.3, r.4, r.5, r.6)
   last_from k trace after out out' (Err stop.WriteFault) r = (r.0, r.1, moved after r.0 r.2, r.3, r.4, r.5)
@@ -54,8 +56,8 @@ module _ (may : List RuleValue → EntryValue → Type 0) (M : MissionValue) (bu
 
   -- memory for the world was wanting
   pub run_not_begun : (last : Option ℕ) (trace : Bool) (out : SinkView) → IsMission M → loaded.script ≡ bus_rules M → RunsTold may last trace M bus loaded out out (status_of (Err stop.NoMemory))
-  run_not_begun (Some k) trace out mission script = last_from k trace loaded out out (Err stop.NoMemory) (not_begun_last may k trace M loaded out mission script)
-  run_not_begun None trace out mission script = run_from trace loaded out out (Err stop.NoMemory) (head_done may trace M loaded out out mission script (Err write.Memory) refl)
+  run_not_begun (Some k) trace out mission script = last_from k trace loaded out out (Err stop.NoMemory) (not_begun_last may k trace M M.actuator loaded out (option_map first_gate M.actuator) (mission_begins may M loaded mission script))
+  run_not_begun None trace out mission script = run_from trace loaded out out (Err stop.NoMemory) (head_done may trace M M.actuator loaded out out (option_map first_gate M.actuator) (mission_begins may M loaded mission script) (Err write.Memory) refl)
 
   summarized_from : (number : ℕ) (after : BusValue) (out out' : SinkView) (r : Result (Unit {0}) RunStop) → Summarizes may number M loaded after out out' r → Summarizes may number M bus after out out' r
   summarized_from number after out out' (Ok _) r = (r.0, r.1, moved after r.0 r.2, r.3, r.4, r.5)

@@ -6,4 +6,5 @@ pub mod Sets
 pub mod Rows
 pub mod Outputs
 pub mod Sensors
+pub mod Actuators
 pub mod Mission

@@ -1,5 +1,5 @@
 -- The mission that bytes stand for, or the first check that fails.
-use Rattle.std.specs.Prelude.{ℕ, List, [], ◌∷◌, codes, None, Ok}
+use Rattle.std.specs.Prelude.{ℕ, List, [], ◌∷◌, length, codes, Ok}
 use Rattle.toml.specs.Data.{Members}
 use Rattle.guards_model.specs.Missions.{MissionValue}
 use Rattle.fault_text.specs.FaultTexts.{script_field}
@@ -10,10 +10,12 @@ use Rattle.mission_text.specs.Blocks.{initial_field}
 use Rattle.mission_text.specs.Rows.{table_field}
 use Rattle.mission_text.specs.Outputs.{outputs_field}
 use Rattle.mission_text.specs.Sensors.{sensors_field}
+use Rattle.mission_text.specs.Actuators.{actuator_field}
 
 abbrev pub document_keys : List (List ℕ)
 document_keys =
-    codes "core" ∷ codes "init" ∷ codes "task" ∷ codes "table" ∷ codes "outputs" ∷ codes "sensors" ∷ codes "fault" ∷ []
+    codes "core" ∷ codes "init" ∷ codes "task" ∷ codes "table" ∷ codes "outputs" ∷ codes "sensors"
+    ∷ codes "fault" ∷ codes "actuator" ∷ []
 
 -- the mission with this core, by the other keys of its document
 unfoldable pub mission_after : CoreFields → Members → Checked MissionValue
@@ -23,6 +25,7 @@ mission_after core fields = do
   outputs ← outputs_field core.sizes.blocks core.sizes.width fields
   sensors ← sensors_field core.sizes.channels core.sizes.width fields
   script ← script_field core.sizes.channels core.sizes.cycles core.sizes.blocks fields
+  actuator ← actuator_field (length outputs) fields
   Ok (record {
     rules = rules_of core;
     cycles = core.sizes.cycles;
@@ -33,7 +36,7 @@ mission_after core fields = do
     outputs = outputs;
     sensors = sensors;
     script = script;
-    actuator = None;
+    actuator = actuator;
   })
 
 -- the mission of a document, key by key

@@ -1,11 +1,12 @@
 //! The key `init`: the blocks that do not begin with zero.
-ghost use Rattle.std.specs.Prelude.{◌≡◌, ◌≤◌, length, slice_set, IfOk, IsTrue};
+ghost use Rattle.std.specs.Prelude.{◌≡◌, ◌≤◌, codes, length, slice_set, IfOk, IsTrue};
 ghost use Rattle.std.specs.List.{list_all, list_any};
 ghost use Rattle.toml.specs.View.{view, table_view};
 ghost use Rattle.guards_model.specs.Contexts.{zeroed};
 ghost use Rattle.guards_model.specs.Missions.{is_context};
-ghost use Rattle.mission_checks.specs.Checks.{Gives};
-ghost use Rattle.mission_text.specs.Blocks.{names_block, is_init_block, with_blocks, init_blocks_at, initial_at, initial_field};
+ghost use Rattle.mission_checks.specs.declared.why.Cause.TheVariants.{Duplicate};
+ghost use Rattle.mission_checks.specs.Checks.{Gives, Refuses, field, integers};
+ghost use Rattle.mission_text.specs.Blocks.{names_block, is_block, is_init_block, with_blocks, init_blocks_at, initial_at, initial_field};
 
 use crate::words::are_words;
 use context_blocks::{Block, Context};
@@ -60,16 +61,36 @@ impl ElementReader for BlockReader {
         let most = u32::from(self.blocks).saturating_sub(1);
         let block = number(alloc, fields, path, "block", 0, most)?;
         if is_named(block, earlier) {
-            return Err(refusal(alloc, Cause::Duplicate, &field(alloc, path, "block")?));
+            return Err(duplicate(alloc, path));
         }
         let given = required(alloc, fields, path, "words")?;
-        let list = integers(alloc, 8, &field(alloc, path, "words")?, given)?;
-        are_words(list.as_slice());
-        Ok(InitBlock {
-            block,
-            words: eight(list.as_slice()),
-        })
+        let words = words_of(alloc, given, path)?;
+        Ok(InitBlock { block, words })
     }
+}
+
+/// The fault of an element that names a block which an earlier one names.
+fn duplicate(alloc: Global, path: &str) -> ReadFault
+    ensures { Refuses Duplicate (field path.now (codes "block")) result }
+{
+    match field(alloc, path, "block") {
+        Ok(place) => refusal(alloc, Cause::Duplicate, &place),
+        Err(_) => ReadFault::Memory,
+    }
+}
+
+/// The eight words of an element. The path of their key is dropped by name: a drop that is implied at each exit costs the
+/// check more.
+fn words_of(alloc: Global, given: &Value, path: &str) -> Result<[i64; 8], ReadFault>
+    ensures exact { Gives (λ words. words) result (integers 8 (field path.now (codes "words")) (view given.now)) }
+    ensures whole { IfOk result (λ words. IsTrue (is_block words)) }
+{
+    let place = field(alloc, path, "words")?;
+    let list = integers(alloc, 8, &place, given);
+    drop(place);
+    let list = list?;
+    are_words(list.as_slice());
+    Ok(eight(list.as_slice()))
 }
 
 fn is_named(block: u32, earlier: &[InitBlock]) -> bool

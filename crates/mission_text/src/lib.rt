@@ -1,6 +1,7 @@
 //! Reads missions: what the bytes stand for, or the first check that fails.
 #![tactic(auto)]
 
+mod actuator;
 mod blocks;
 mod core_fields;
 mod expressions;
@@ -14,5 +15,5 @@ mod words;
 pub use blocks::InitBlock;
 pub use core_fields::{Choices, CoreFields, CoreSizes, Limits};
 pub use mission_checks::{Cause, ReadFault, Why};
-pub use mission_type::{Mission, Outputs, SensorRow, SensorRows};
+pub use mission_type::{Actuator, Mission, Outputs, SensorRow, SensorRows};
 pub use reading::read;

@@ -1,5 +1,5 @@
 //! The key `outputs`: the words that are put out.
-ghost use Rattle.std.specs.Prelude.{◌≡◌, ◌&&◌, nat_lt, length, map, IfOk, IsTrue};
+ghost use Rattle.std.specs.Prelude.{◌≡◌, ◌≤◌, ◌&&◌, nat_lt, length, map, IfOk, IsTrue};
 ghost use Rattle.std.specs.List.{list_all};
 ghost use Rattle.toml.specs.View.{view, table_view};
 ghost use Rattle.guards_model.specs.Expressions.{fits_sizes};
@@ -69,6 +69,7 @@ pub(crate) fn outputs_field(
     sizes: TextSizes,
 ) -> Result<Outputs, ReadFault>
     ensures whole { IfOk result (λ outputs. IsTrue (within 1 8 (length outputs.items) && list_all (λ o. nat_lt o.0 sizes.blocks && nat_lt o.1 8) outputs.items)) }
+    ensures few { IfOk result (λ outputs. length outputs.items ≤ 8) }
     ensures exact { Gives (λ outputs. outputs.items) result (outputs_field sizes.blocks sizes.width (table_view fields.now)) }
 {
     let given = required(alloc, fields, "", "outputs")?;

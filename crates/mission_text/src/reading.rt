@@ -1,11 +1,12 @@
 //! From bytes to a mission.
-ghost use Rattle.std.specs.Prelude.{◌≡◌, ◌≤◌, IsTrue};
+ghost use Rattle.std.specs.Prelude.{◌≤◌, IsTrue};
 ghost use Rattle.toml.specs.View.{table_view};
 ghost use Rattle.guards_model.specs.Missions.{is_rules};
 ghost use Rattle.mission_checks.specs.Checks.{Gives};
 ghost use Rattle.mission_text.specs.Core.{rules_of};
 ghost use Rattle.mission_text.specs.Mission.{mission_after, mission_at, mission_of};
 
+use crate::actuator::actuator_field;
 use crate::blocks::initial_field;
 use crate::core_fields::{CoreFields, core_of};
 use crate::expressions::TextSizes;
@@ -18,8 +19,8 @@ use mission_type::Mission;
 use std::alloc::Global;
 use toml::Table;
 
-const KEYS: [&str; 7] = [
-    "core", "init", "task", "table", "outputs", "sensors", "fault",
+const KEYS: [&str; 8] = [
+    "core", "init", "task", "table", "outputs", "sensors", "fault", "actuator",
 ];
 
 /// The mission with this core, by the other keys of its document.
@@ -44,6 +45,7 @@ fn mission_after(alloc: Global, fields: &Table, core: CoreFields) -> Result<Miss
     let outputs = outputs_field(alloc, fields, sizes)?;
     let sensors = sensors_field(alloc, fields, channels, sizes.width)?;
     let script = script_of(alloc, fields, channels, cycles, sizes.blocks)?;
+    let actuator = actuator_field(alloc, fields, outputs.len())?;
     Ok(Mission {
         rules: core.rules(),
         cycles,
@@ -54,7 +56,7 @@ fn mission_after(alloc: Global, fields: &Table, core: CoreFields) -> Result<Miss
         outputs,
         sensors,
         script,
-        actuator: None,
+        actuator,
     })
 }
 

@@ -1,5 +1,5 @@
 //! The key `task`: the tasks with their writes.
-ghost use Rattle.std.specs.Prelude.{◌≡◌, ◌&&◌, nat_le, length, option_map, IfOk, IsTrue};
+ghost use Rattle.std.specs.Prelude.{◌≡◌, ◌++◌, ◌&&◌, nat_le, length, option_map, IfOk, IsTrue};
 ghost use Rattle.std.specs.List.{list_all, list_any};
 ghost use Rattle.toml.specs.View.{view, table_view};
 ghost use Rattle.guards_model.specs.Expressions.{fits_or_none};
@@ -51,6 +51,8 @@ struct FourSets {
 }
 
 /// The expressions for four words of a block.
+//
+// What is not passed on is dropped by name: a drop that a scope's end implies costs the check seconds for each value.
 #[tactic(auto, unfolding(crate::specs::Tasks::four_sets_at))]
 fn four_sets(
     alloc: Global,
@@ -66,10 +68,37 @@ fn four_sets(
     ensures exact { Gives four_trees result (four_sets_at sizes.blocks sizes.width path.now k0.now k1.now k2.now k3.now (table_view fields.now)) }
 {
     let a = set_of(alloc, sizes, path, k0, fields)?;
-    let b = set_of(alloc, sizes, path, k1, fields)?;
-    let c = set_of(alloc, sizes, path, k2, fields)?;
-    let d = set_of(alloc, sizes, path, k3, fields)?;
-    Ok(FourSets { a, b, c, d })
+    match set_of(alloc, sizes, path, k1, fields) {
+        Ok(b) => match set_of(alloc, sizes, path, k2, fields) {
+            Ok(c) => match set_of(alloc, sizes, path, k3, fields) {
+                Ok(d) => Ok(FourSets { a, b, c, d }),
+                Err(fault) => {
+                    drop(a);
+                    drop(b);
+                    drop(c);
+                    Err(fault)
+                }
+            },
+            Err(fault) => {
+                drop(a);
+                drop(b);
+                Err(fault)
+            }
+        },
+        Err(fault) => {
+            drop(a);
+            Err(fault)
+        }
+    }
+}
+
+/// Four expressions, and four more.
+fn joined(low: FourSets, high: FourSets) -> Sets
+    ensures { result ≡ four_trees low ++ four_trees high }
+{
+    Sets {
+        at: [low.a, low.b, low.c, low.d, high.a, high.b, high.c, high.d],
+    }
 }
 
 /// The expressions for the eight words of a block.
@@ -79,10 +108,13 @@ fn sets_of(alloc: Global, sizes: TextSizes, path: &str, fields: &Table) -> Resul
     ensures exact { Gives (λ sets. sets) result (sets_at sizes.blocks sizes.width path.now (table_view fields.now)) }
 {
     let low = four_sets(alloc, sizes, path, "w0", "w1", "w2", "w3", fields)?;
-    let high = four_sets(alloc, sizes, path, "w4", "w5", "w6", "w7", fields)?;
-    Ok(Sets {
-        at: [low.a, low.b, low.c, low.d, high.a, high.b, high.c, high.d],
-    })
+    match four_sets(alloc, sizes, path, "w4", "w5", "w6", "w7", fields) {
+        Ok(high) => Ok(joined(low, high)),
+        Err(fault) => {
+            drop(low);
+            Err(fault)
+        }
+    }
 }
 
 /// Reads the writes of a task.
@@ -236,10 +268,13 @@ impl ElementReader for TaskReader {
         only(alloc, &TASK_KEYS, path, fields)?;
         let name = name_of(alloc, earlier, path, fields)?;
         let writes = writes_of(alloc, self.sizes, path, fields)?;
-        Ok(Task {
-            name: Text::from_str(alloc, name)?,
-            writes,
-        })
+        match Text::from_str(alloc, name) {
+            Ok(name) => Ok(Task { name, writes }),
+            Err(_) => {
+                drop(writes);
+                Err(ReadFault::Memory)
+            }
+        }
     }
 }
 

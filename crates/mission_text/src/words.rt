@@ -4,7 +4,7 @@ ghost use Rattle.std.specs.List.{list_all};
 ghost use Rattle.guards_model.specs.Words.{is_word};
 
 /// Each i64 is a word.
-fn is_a_word(word: i64)
+pub(crate) fn is_a_word(word: i64)
     ensures { is_word word ≡ true }
 {}
 

@@ -25,7 +25,7 @@ use Rattle.output_laws.proofs.FactsAlike.{cycle_alike}
 -- ---- lists
 
 -- a test that passes only what is kept finds the same in what is kept
-find_kept : (keep test : EntryValue → Bool) → ((y : EntryValue) → test y ≡ true → keep y ≡ true) → (L : Log) → find test (filter keep L) ≡ find test L
+pub find_kept : (keep test : EntryValue → Bool) → ((y : EntryValue) → test y ≡ true → keep y ≡ true) → (L : Log) → find test (filter keep L) ≡ find test L
 find_kept keep test within [] = refl
 find_kept keep test within (y ∷ L) = by (keep y) (test y) refl refl (find_kept keep test within L)
   where
@@ -34,7 +34,7 @@ find_kept keep test within (y ∷ L) = by (keep y) (test y) refl refl (find_kept
     by false true e h rest = differ (sym (within y h) ∙ e)
     by false false e h rest = rest
 
-any_kept : (keep test : EntryValue → Bool) → ((y : EntryValue) → test y ≡ true → keep y ≡ true) → (L : Log) → list_any test (filter keep L) ≡ list_any test L
+pub any_kept : (keep test : EntryValue → Bool) → ((y : EntryValue) → test y ≡ true → keep y ≡ true) → (L : Log) → list_any test (filter keep L) ≡ list_any test L
 any_kept keep test within [] = refl
 any_kept keep test within (y ∷ L) = by (keep y) (test y) refl refl (any_kept keep test within L)
   where

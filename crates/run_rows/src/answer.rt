@@ -1,6 +1,7 @@
 //! The call `guards` over a scripted bus.
 
-ghost use Rattle.std.specs.Prelude.{◌≡◌};
+ghost use Rattle.std.specs.Prelude.{◌≡◌, ◌≤ℤ◌, pos};
+ghost use Rattle.guards_model.specs.Actuators.{limited};
 ghost use Rattle.guards_model.specs.declared.Code.TheVariants as codes;
 ghost use Rattle.guards_model.specs.Natives.{native};
 
@@ -10,6 +11,7 @@ use guards_io::{MemSink, MemSource};
 use icn_bus::ScriptBus;
 use mission_run::{Status, guards};
 use native_calls::{Code, Native, Natives, Operation, middle, ramp, saturated};
+use output_gate::{Limiter, Moves};
 use std::alloc::Global;
 use std::sync::Wait;
 use std::thread::Threads;
@@ -39,6 +41,10 @@ pub fn answer<R: Threads + Wait + Sync>(
         |a: i64, b: i64, c: i64| -> i64
             ensures { result ≡ native Code.Ramp a b c }
         { ramp(a, b, c) },
+        |last: i64, wanted: i64, step: i64| -> i64
+            requires { pos 0 ≤ℤ step }
+            ensures { result ≡ limited last wanted step }
+        { ramp(last, wanted, step) },
     )
 }
 
@@ -48,6 +54,7 @@ fn answer_by<
     X: Operation + Sync,
     Y: Operation + Sync,
     Z: Operation + Sync,
+    F: Moves + Sync,
 >(
     rt: &R,
     alloc: Global,
@@ -58,14 +65,19 @@ fn answer_by<
     sat: X,
     mid: Y,
     ramp: Z,
+    limit: F,
 ) -> Status
     requires sat { X.computes codes.Sat sat }
     requires mid { Y.computes codes.Mid mid }
     requires ramp { Z.computes codes.Ramp ramp }
+    requires limit { F.limits limit }
 {
     let sat = Native::new(Code::Sat, sat);
     let mid = Native::new(Code::Mid, mid);
     let ramp = Native::new(Code::Ramp, ramp);
     let natives = Natives::new(sat, mid, ramp);
-    guards(rt, alloc, words, src, out, bus, &OpenGate, &natives)
+    let limiter = Limiter::new(limit);
+    guards(
+        rt, alloc, words, src, out, bus, &OpenGate, &natives, &limiter,
+    )
 }

@@ -8,6 +8,8 @@ mod cases;
 #[cfg(test)]
 mod lasts;
 #[cfg(test)]
+mod outputs;
+#[cfg(test)]
 mod reports;
 #[cfg(test)]
 mod sizes;

@@ -93,7 +93,7 @@ pub record Reaches (M : MissionValue) (L : Log) (n : ℕ) : Type 0 where
   pub comes : ComesTo (length (cycles_before M L n)) (cycle_at M L n) last
 
 -- a cycle before one of a run
-reaches_end : (M : MissionValue) (L : Log) (m n : ℕ) → HasRun M L m → n < m → Reaches M L n
+pub reaches_end : (M : MissionValue) (L : Log) (m n : ℕ) → HasRun M L m → n < m → Reaches M L n
 reaches_end M L m n run low =
     record {
       last = Output;

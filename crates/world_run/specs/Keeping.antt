@@ -1,22 +1,23 @@
 -- What running a mission and telling its last cycles does, by its answer. This project's own.
-use Rattle.std.specs.Prelude.{◌≡◌, ℕ, ◌-◌, Bool, List, ◌∷◌, [], ◌++◌, flat_map, Result, Ok, Err}
+use Rattle.std.specs.Prelude.{◌≡◌, ℕ, ◌-◌, Bool, List, ◌∷◌, [], ◌++◌, flat_map, Option, Result, Ok, Err}
 use Rattle.std.specs.Io.KnownBytes.{Appends}
 use Rattle.circular_buffer.specs.Buffer.{keep_last}
 use Rattle.flight_log.specs.Kept.{Kept, kept}
 use Rattle.guards_io.specs.declared.Failed.{Failed}
 use Rattle.guards_io.specs.Causes.{Rose}
 use Rattle.guards_model.specs.BusRules.{RuleValue}
-use Rattle.guards_model.specs.Missions.{MissionValue}
+use Rattle.guards_model.specs.Missions.{ActuatorValue, MissionValue}
 use Rattle.guards_model.specs.Network.{EntryValue, Log}
 use Rattle.guards_model.specs.Rounds.{Histories}
 use Rattle.guards_model.specs.Texts.{TextValue, StopValue, stop_line}
-use Rattle.guards_runs.specs.Cycles.{cycles_before}
 use Rattle.guards_world.specs.Worlds.{WorldValue}
 use Rattle.guards_world.specs.WorldCycle.{BusValue}
 use Rattle.icn_world.specs.declared.world.Halt.{Halt}
 use Rattle.icn_world.specs.declared.world.Halt.TheVariants as halt
 use Rattle.ideal_run.specs.Writes.{SinkView, AppendsPart}
-use Rattle.run_laws.specs.Runs.{Ran, RanCycles, RanToStop, RanPart, IsBetween, last_texts, short_text, with_unfinished}
+use Rattle.run_laws.specs.Runs.{Ran, with_unfinished}
+use Rattle.output_gate.specs.Gates.{GateValue}
+use Rattle.acted_runs.specs.Driving.{CyclesRan, RunStopped, RunBroken, IsDriven, last_told, short_told}
 use Rattle.world_run.specs.declared.stop.RunStop.{RunStop}
 use Rattle.world_run.specs.declared.stop.RunStop.TheVariants.{Disturbed, WriteFault, NoMemory}
 use Rattle.world_run.specs.Running.{Refuses, stop_text, stop_value}
@@ -35,34 +36,34 @@ abbrev pub Keeps : Kept → Kept → TextValue → Result (Unit {0}) Halt → Ty
 Keeps old new text (Ok _) = new ≡ kept (keep_last old.room (old.parts ++ text ∷ [])) old.room
 Keeps old new text (Err h) = h ≡ halt.NoMemory
 
-module _ (may : List RuleValue → EntryValue → Type 0) (k : ℕ) (trace : Bool) (M : MissionValue) where
+module _ (may : List RuleValue → EntryValue → Type 0) (k : ℕ) (trace : Bool) (M : MissionValue) (o : Option ActuatorValue) where
   -- ---- what a run does that tells its last k cycles
 
   -- All cycles ran, none stopped, and the short text was written; where it is traced, by full histories whose copies were sent.
   abbrev pub RunsWholeLast : BusValue → BusValue → SinkView → SinkView → Type 0
   RunsWholeLast bus bus' out out' =
-      (L : Log) × (histories : Histories) × Ran may M bus bus' L × RanCycles M M.cycles L histories
-      × Appends out.written out'.written (short_text k trace M L histories) × (out'.faults ≡ out.faults)
+      (L : Log) × (histories : Histories) × Ran may M bus bus' L × CyclesRan o M M.cycles L histories
+      × Appends out.written out'.written (short_told k o trace M L histories) × (out'.faults ≡ out.faults)
 
   -- The cycles before the stop ran, and its own up to the end of its slot. The short text, which ends with the stop's line, was
   -- written, or, only where the sink's faults rose, a front of it.
   abbrev pub RunsToStopLast : StopValue → BusValue → BusValue → SinkView → SinkView → Type 0
   RunsToStopLast stop bus bus' out out' =
-      (L : Log) × (histories : Histories) × (before : TextValue) × Ran may M bus bus' L × RanToStop M stop.cycle stop L histories
-      × (short_text k trace M L (with_unfinished (M.cycles - stop.cycle) histories) ≡ before ++ stop_line stop)
+      (L : Log) × (histories : Histories) × (before : TextValue) × Ran may M bus bus' L × RunStopped o M stop.cycle stop L histories
+      × (short_told k o trace M L (with_unfinished (M.cycles - stop.cycle) histories) ≡ before ++ stop_line stop)
       × Refuses out out' (before ++ stop_line stop)
 
   -- All cycles ran, none stopped, and the sink failed: a front of the short text that is not all of it was written.
   abbrev pub RunsUnwrittenLast : BusValue → BusValue → SinkView → SinkView → Type 0
   RunsUnwrittenLast bus bus' out out' =
-      (L : Log) × (histories : Histories) × Ran may M bus bus' L × RanCycles M M.cycles L histories
-      × AppendsPart out.written out'.written (short_text k trace M L histories) × Rose out.faults out'.faults
+      (L : Log) × (histories : Histories) × Ran may M bus bus' L × CyclesRan o M M.cycles L histories
+      × AppendsPart out.written out'.written (short_told k o trace M L histories) × Rose out.faults out'.faults
 
   -- Memory ran out, before anything was written: some cycles ran, and a front of the next one's entries was carried, none after a
   -- stop.
   abbrev pub RunsShortLast : BusValue → BusValue → SinkView → SinkView → Type 0
   RunsShortLast bus bus' out out' =
-      (L : Log) × (histories : Histories) × (n : ℕ) × Ran may M bus bus' L × RanPart M n L histories × (out' ≡ out)
+      (L : Log) × (histories : Histories) × (n : ℕ) × Ran may M bus bus' L × RunBroken o M n L histories × (out' ≡ out)
 
   -- What running the mission and telling its last k cycles does, by its answer.
   abbrev pub RunsLast : BusValue → BusValue → SinkView → SinkView → Result (Unit {0}) RunStop → Type 0
@@ -74,26 +75,26 @@ module _ (may : List RuleValue → EntryValue → Type 0) (k : ℕ) (trace : Boo
   -- ---- what is kept of its cycles
 
   -- Between two cycles of a run that began with this bus, the parts of the last k were kept.
-  abbrev pub IsKept : BusValue → WorldValue → BusValue → Kept → Type 0
-  IsKept start w bus log =
-      (L : Log) × (histories : Histories) × IsBetween may M start w bus L L histories
-      × (log ≡ kept (last_texts k trace M histories (cycles_before M L w.done)) k)
+  abbrev pub IsKept : BusValue → WorldValue → BusValue → Option GateValue → Kept → Type 0
+  IsKept start w bus gate log =
+      (L : Log) × (histories : Histories) × IsDriven o may M start w bus gate L histories
+      × (log ≡ kept (last_told k o trace M L histories w.done) k)
 
   -- the cycles before the stop ran, and its own up to the end of its slot; the parts of the last k before it were kept
   abbrev pub KeptToStop : StopValue → BusValue → BusValue → Kept → Type 0
   KeptToStop stop start bus log =
-      (L : Log) × (histories : Histories) × Ran may M start bus L × RanToStop M stop.cycle stop L histories
-      × (log ≡ kept (last_texts k trace M histories (cycles_before M L stop.cycle)) k)
+      (L : Log) × (histories : Histories) × Ran may M start bus L × RunStopped o M stop.cycle stop L histories × RunBroken o M stop.cycle L histories
+      × (log ≡ kept (last_told k o trace M L histories stop.cycle) k)
 
   -- what was kept at a halt
   abbrev pub KeptToHalt : Halt → BusValue → BusValue → Kept → Type 0
   KeptToHalt (halt.Disturbed cycle slot set active) start bus log = KeptToStop (stop_value cycle slot set active) start bus log
-  KeptToHalt halt.NoMemory start bus log = (L : Log) × (histories : Histories) × (n : ℕ) × Ran may M start bus L × RanPart M n L histories
+  KeptToHalt halt.NoMemory start bus log = (L : Log) × (histories : Histories) × (n : ℕ) × Ran may M start bus L × RunBroken o M n L histories
 
   -- what goes on with the run until n cycles ran does, by its answer
-  abbrev pub KeepsTo : BusValue → ℕ → WorldValue → BusValue → Kept → Result (Unit {0}) Halt → Type 0
-  KeepsTo start n w bus log (Ok _) = IsKept start w bus log × (w.done ≡ n)
-  KeepsTo start n w bus log (Err h) = KeptToHalt h start bus log
+  abbrev pub KeepsTo : BusValue → ℕ → WorldValue → BusValue → Option GateValue → Kept → Result (Unit {0}) Halt → Type 0
+  KeepsTo start n w bus gate log (Ok _) = IsKept start w bus gate log × (w.done ≡ n)
+  KeepsTo start n w bus gate log (Err h) = KeptToHalt h start bus log
 
 -- what telling a halt does, behind what was kept: all of it and the stop's line were written, or there was no memory for it
 abbrev pub TellsKept : Halt → TextValue → SinkView → SinkView → RunStop → Type 0

@@ -1,17 +1,15 @@
 -- What running a mission does, by its answer. This project's own.
-use Rattle.std.specs.Prelude.{◌≡◌, ◌<◌, ◌⊎◌, ℕ, ◌-◌, Bool, List, ◌∷◌, ◌++◌, length, min, Option, None, Result, Ok, Err}
+use Rattle.std.specs.Prelude.{◌≡◌, ◌<◌, ◌⊎◌, ℕ, ◌-◌, Bool, List, [], ◌∷◌, ◌++◌, length, min, Option, None, Some, Result, Ok, Err}
 use Rattle.std.specs.Io.KnownBytes.{Appends}
 use Rattle.guards_io.specs.Causes.{Rose}
 use Rattle.guards_model.specs.declared.Slot.{Slot}
 use Rattle.guards_model.specs.BusRules.{RuleValue}
 use Rattle.guards_model.specs.Channels.{ChannelSet}
-use Rattle.guards_model.specs.Missions.{MissionValue}
+use Rattle.guards_model.specs.Missions.{MissionValue, ActuatorValue}
 use Rattle.guards_model.specs.Network.{EntryValue, Log}
 use Rattle.guards_model.specs.Rounds.{Histories}
 use Rattle.guards_model.specs.Records.{shown}
-use Rattle.guards_model.specs.Texts.{TextValue, Part, RecordValue, StopValue, part_text, text_of, cycle_part, stop_line}
-use Rattle.guards_runs.specs.Cycles.{cycles_before}
-use Rattle.guards_runs.specs.Report.{parts_of}
+use Rattle.guards_model.specs.Texts.{TextValue, Part, RecordValue, StopValue, part_text, text_of, cycle_part, out_line, stop_line}
 use Rattle.guards_world.specs.Worlds.{WorldValue}
 use Rattle.guards_world.specs.WorldCycle.{BusValue}
 use Rattle.ideal_run.specs.Writes.{SinkView, AppendsPart, AppendsFront}
@@ -19,7 +17,9 @@ use Rattle.ideal_run.specs.declared.output.WriteStop.{WriteStop}
 use Rattle.ideal_run.specs.declared.output.WriteStop.TheVariants as write
 use Rattle.icn_world.specs.declared.world.Halt.{Halt}
 use Rattle.icn_world.specs.declared.world.Halt.TheVariants as halt
-use Rattle.run_laws.specs.Runs.{Ran, RanCycles, RanToStop, RanPart, IsBetween, parts_so_far, run_text, with_unfinished}
+use Rattle.run_laws.specs.Runs.{Ran, with_unfinished}
+use Rattle.output_gate.specs.Gates.{GateValue}
+use Rattle.acted_runs.specs.Driving.{CyclesRan, RunStopped, RunBroken, IsDriven, parts_of_whole, parts_so_far, told_text}
 use Rattle.world_run.specs.declared.stop.RunStop.{RunStop}
 use Rattle.world_run.specs.declared.stop.RunStop.TheVariants.{Disturbed, WriteFault, NoMemory}
 
@@ -32,8 +32,17 @@ stop_value cycle slot set active = record { cycle = cycle; slot = slot; set = se
 -- ---- what is written
 
 -- the part of a cycle, as a text
-unfoldable pub cycle_text : Bool → MissionValue → RecordValue → TextValue
-cycle_text trace M part = part_text (cycle_part trace (shown M.rules.channels M.width (length M.outputs) part))
+unfoldable pub bare_text : Bool → MissionValue → RecordValue → TextValue
+bare_text trace M part = part_text (cycle_part trace (shown M.rules.channels M.width (length M.outputs) part))
+
+-- the line of an actuator's words, if there is one
+abbrev pub words_line : Option GateValue → TextValue
+words_line None = []
+words_line (Some gate) = out_line gate.words
+
+-- the part of a cycle, with the line of an actuator's words behind it
+unfoldable pub cycle_text : Bool → MissionValue → Option GateValue → RecordValue → TextValue
+cycle_text trace M gate part = bare_text trace M part ++ words_line gate
 
 -- the line of a stop
 unfoldable pub stop_text : StopValue → TextValue
@@ -73,33 +82,34 @@ EndsWith old new before line =
 
 -- ---- what a run does
 
-module _ (may : List RuleValue → EntryValue → Type 0) (trace : Bool) (M : MissionValue) where
+module _ (may : List RuleValue → EntryValue → Type 0) (trace : Bool) (M : MissionValue) (o : Option ActuatorValue) where
   -- All cycles ran, none stopped, and the report was written; where it is traced, by full histories whose copies were sent.
   abbrev pub RunsWhole : BusValue → BusValue → SinkView → SinkView → Type 0
   RunsWhole bus bus' out out' =
-      (L : Log) × (histories : Histories) × Ran may M bus bus' L × RanCycles M M.cycles L histories
-      × Appends out.written out'.written (run_text trace M L histories) × (out'.faults ≡ out.faults)
+      (L : Log) × (histories : Histories) × Ran may M bus bus' L × CyclesRan o M M.cycles L histories
+      × Appends out.written out'.written (told_text o trace M L histories) × (out'.faults ≡ out.faults)
 
   -- The cycles before the stop ran, and its own up to the end of its slot. The report ends with the stop's line.
   abbrev pub RunsToStop : StopValue → BusValue → BusValue → SinkView → SinkView → Type 0
   RunsToStop stop bus bus' out out' =
-      (L : Log) × (histories : Histories) × (before : TextValue) × Ran may M bus bus' L × RanToStop M stop.cycle stop L histories
-      × (run_text trace M L (with_unfinished (M.cycles - stop.cycle) histories) ≡ before ++ stop_line stop)
+      (L : Log) × (histories : Histories) × (before : TextValue) × Ran may M bus bus' L × RunStopped o M stop.cycle stop L histories
+      × (told_text o trace M L (with_unfinished (M.cycles - stop.cycle) histories) ≡ before ++ stop_line stop)
       × EndsWith out out' before (stop_line stop)
 
-  -- The sink failed in the part after the first `whole` ones: so many cycles ran as have a part that was begun.
+  -- The sink failed in the part after the first `whole` ones: so many cycles ran as have a part that was begun, each with its
+  -- exchange, which comes before its part.
   abbrev pub RunsUnwritten : BusValue → BusValue → SinkView → SinkView → Type 0
   RunsUnwritten bus bus' out out' =
-      (L : Log) × (histories : Histories) × (whole : ℕ) × Ran may M bus bus' L × RanCycles M (min whole M.cycles) L histories
-      × WroteParts out.written out'.written (parts_of trace M histories (cycles_before M L (min whole M.cycles)) None) whole
+      (L : Log) × (histories : Histories) × (whole : ℕ) × Ran may M bus bus' L × CyclesRan o M (min whole M.cycles) L histories
+      × WroteParts out.written out'.written (parts_of_whole o trace M L histories (min whole M.cycles)) whole
       × Rose out.faults out'.faults
 
   -- Memory ran out: some cycles ran, and a front of the next one's entries was carried, none after a stop; a front of the text was
   -- written.
   abbrev pub RunsShort : BusValue → BusValue → SinkView → SinkView → Type 0
   RunsShort bus bus' out out' =
-      (L : Log) × (histories : Histories) × (n : ℕ) × Ran may M bus bus' L × RanPart M n L histories
-      × AppendsFront out.written out'.written (text_of (parts_so_far trace M histories (cycles_before M L n)))
+      (L : Log) × (histories : Histories) × (n : ℕ) × Ran may M bus bus' L × RunBroken o M n L histories
+      × AppendsFront out.written out'.written (text_of (parts_so_far o trace M L histories n))
       × (out'.faults ≡ out.faults)
 
   -- What running the mission does, by its answer.
@@ -110,16 +120,16 @@ module _ (may : List RuleValue → EntryValue → Type 0) (trace : Bool) (M : Mi
   Runs bus bus' out out' (Err NoMemory) = RunsShort bus bus' out out'
 
   -- Between two cycles of a run that began with this bus and this sink: the head line and the parts of the cycles were written.
-  abbrev pub IsAt : BusValue → SinkView → WorldValue → BusValue → SinkView → Type 0
-  IsAt start begun w bus out =
-      (L : Log) × (histories : Histories) × IsBetween may M start w bus L L histories
-      × Appends begun.written out.written (text_of (parts_so_far trace M histories (cycles_before M L w.done)))
+  abbrev pub IsAt : BusValue → SinkView → WorldValue → BusValue → Option GateValue → SinkView → Type 0
+  IsAt start begun w bus gate out =
+      (L : Log) × (histories : Histories) × IsDriven o may M start w bus gate L histories
+      × Appends begun.written out.written (text_of (parts_so_far o trace M L histories w.done))
       × (out.faults ≡ begun.faults)
 
   -- what goes on with the run until n cycles ran does, by its answer
-  abbrev pub GoesTo : BusValue → SinkView → ℕ → WorldValue → BusValue → SinkView → Result (Unit {0}) RunStop → Type 0
-  GoesTo start begun n w bus out (Ok _) = IsAt start begun w bus out × (w.done ≡ n)
-  GoesTo start begun n w bus out (Err stop) = Runs start bus begun out (Err stop)
+  abbrev pub GoesTo : BusValue → SinkView → ℕ → WorldValue → BusValue → Option GateValue → SinkView → Result (Unit {0}) RunStop → Type 0
+  GoesTo start begun n w bus gate out (Ok _) = IsAt start begun w bus gate out × (w.done ≡ n)
+  GoesTo start begun n w bus gate out (Err stop) = Runs start bus begun out (Err stop)
 
 -- what telling a stop does: its line was written, or there was no memory for it
 abbrev pub TellsStop : StopValue → SinkView → SinkView → RunStop → Type 0

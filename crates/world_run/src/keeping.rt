@@ -1,14 +1,17 @@
 //! Runs a mission and tells its last cycles, once it has ended.
-ghost use Rattle.std.specs.Prelude.{◌≡◌, ◌≤◌, ◌<◌, [], ◌∷◌, ◌++◌, suc, flat_map, ℕ};
+ghost use Rattle.std.specs.Prelude.{◌≡◌, ◌≤◌, ◌<◌, [], ◌∷◌, ◌++◌, suc, flat_map, ℕ, length, Option, Some, option_map};
 ghost use Rattle.flight_log.specs.Kept.{kept};
-ghost use Rattle.guards_model.specs.Missions.{MissionValue, IsMission, bus_rules};
+ghost use Rattle.guards_model.specs.Missions.{ActuatorValue, MissionValue, IsMission, bus_rules};
 ghost use Rattle.guards_world.specs.Worlds.{first_world};
-ghost use Rattle.guards_world.specs.WorldCycle.{BusValue, MayCycle};
+ghost use Rattle.guards_world.specs.WorldCycle.{BusValue};
+ghost use Rattle.output_gate.specs.Gates.{GateValue};
+ghost use Rattle.acted_runs.specs.Driving.{first_gate};
 ghost use Rattle.ideal_run.specs.Report.{last};
 ghost use Rattle.ideal_run.specs.Writes.{sink_view};
 ghost use Rattle.world_run.specs.Running.{bus_value, Puts, cycle_text};
 ghost use Rattle.world_run.specs.Keeping.{Gives, Keeps, IsKept, KeepsTo, RunsLast, TellsKept, kept_text};
 
+use crate::driving::{first_gate, pass};
 use crate::running::told;
 use crate::stop::RunStop;
 use crate::writing::{cycle_text, end_text, head_text, stop_text};
@@ -21,6 +24,7 @@ use icn_world::{Halt, World};
 use ideal_run::{WriteStop, write_all};
 use mission_type::Mission;
 use native_calls::Calls;
+use output_gate::{Limit, OutputGate};
 use std::alloc::Global;
 use std::sync::Wait;
 use std::thread::Threads;
@@ -111,60 +115,71 @@ fn keep(
     alloc: Global,
     mission: &Mission,
     part: &CycleRecord,
+    actuator: &Option<OutputGate>,
     trace: bool,
     log: &mut FlightLog,
 ) -> Result<(), Halt>
-    ensures { Keeps log.old log.new (cycle_text trace mission.now part.now) result }
+    requires { (g : GateValue) → actuator.now ≡ Some g → length g.words ≡ length mission.now.outputs }
+    ensures { Keeps log.old log.new (cycle_text trace mission.now actuator.now part.now) result }
 {
-    let text = cycle_text(alloc, mission, part, trace)?;
+    let text = cycle_text(alloc, mission, part, actuator, trace)?;
     let bytes = Bytes::from_slice(alloc, text.as_str().as_bytes())?;
     let _ = log.push(bytes);
     Ok(())
 }
 
-/// Passes one more cycle, and keeps its part.
-fn keep_cycle<B: Bus, G: Gate, C: Calls + Sync, R: Threads + Wait + Sync>(
+/// Passes one more cycle with its exchange, and keeps its part.
+fn keep_cycle<B: Bus, G: Gate, C: Calls + Sync, R: Threads + Wait + Sync, Q: Limit>(
     rt: &R,
     alloc: Global,
     world: &mut World,
     bus: &mut B,
     gate: &G,
     natives: &C,
+    limit: &Q,
+    actuator: &mut Option<OutputGate>,
     trace: bool,
     log: &mut FlightLog,
 ) -> Result<(), Halt>
-    requires { MayCycle world.old (bus_value (B.log bus.old) (B.script bus.old)) }
-    ensures { (k : ℕ) (M : MissionValue) (start : BusValue) →
-        IsKept B.may k trace M start world.old (bus_value (B.log bus.old) (B.script bus.old)) log.old →
-        KeepsTo B.may k trace M start (suc world.old.done) world.new (bus_value (B.log bus.new) (B.script bus.new)) log.new result }
+    requires below { world.old.done < world.old.mission.cycles }
+    requires at { (k : ℕ) × (o : Option ActuatorValue) × (M : MissionValue) × (start : BusValue) ×
+        IsKept B.may k trace M o start world.old (bus_value (B.log bus.old) (B.script bus.old)) actuator.old log.old }
+    ensures { (k : ℕ) (o : Option ActuatorValue) (M : MissionValue) (start : BusValue) →
+        IsKept B.may k trace M o start world.old (bus_value (B.log bus.old) (B.script bus.old)) actuator.old log.old →
+        KeepsTo B.may k trace M o start (suc world.old.done) world.new (bus_value (B.log bus.new) (B.script bus.new)) actuator.new log.new result }
 {
-    match world.cycle(rt, alloc, bus, gate, natives) {
-        Ok(part) => keep(alloc, world.mission(), &part, trace, log),
+    match pass(rt, alloc, world, bus, gate, natives, limit, actuator) {
+        Ok(part) => keep(alloc, world.mission(), &part, actuator, trace, log),
         Err(halt) => Err(halt),
     }
 }
 
 /// Passes all cycles, and keeps the last parts.
-fn keep_cycles<B: Bus, G: Gate, C: Calls + Sync, R: Threads + Wait + Sync>(
+fn keep_cycles<B: Bus, G: Gate, C: Calls + Sync, R: Threads + Wait + Sync, Q: Limit>(
     rt: &R,
     alloc: Global,
     world: &mut World,
     bus: &mut B,
     gate: &G,
     natives: &C,
+    limit: &Q,
+    actuator: &mut Option<OutputGate>,
     trace: bool,
     log: &mut FlightLog,
 ) -> Result<(), Halt>
     requires world { world.old ≡ first_world world.old.mission }
     requires mission { IsMission world.old.mission }
     requires loaded { B.script bus.old ≡ bus_rules world.old.mission }
+    requires gate { actuator.old ≡ option_map first_gate world.old.mission.actuator }
     requires empty { log.old.parts ≡ [] }
-    ensures { KeepsTo B.may log.old.room trace world.old.mission (bus_value (B.log bus.old) (B.script bus.old))
-        world.old.mission.cycles world.new (bus_value (B.log bus.new) (B.script bus.new)) log.new result }
+    ensures { KeepsTo B.may log.old.room trace world.old.mission world.old.mission.actuator (bus_value (B.log bus.old) (B.script bus.old))
+        world.old.mission.cycles world.new (bus_value (B.log bus.new) (B.script bus.new)) actuator.new log.new result }
 {
     for cycle in 0..world.mission().cycles() {
         let _cycle = cycle;
-        keep_cycle(rt, alloc, world, bus, gate, natives, trace, log)?;
+        keep_cycle(
+            rt, alloc, world, bus, gate, natives, limit, actuator, trace, log,
+        )?;
     }
     Ok(())
 }
@@ -172,13 +187,14 @@ fn keep_cycles<B: Bus, G: Gate, C: Calls + Sync, R: Threads + Wait + Sync>(
 /// Runs the world's mission from its start over a bus that has the mission's rules, and keeps the parts of the last cycles, at
 /// most `last` of them. When the run has ended, also by a stop, it writes the head line, these parts, and the last line or the
 /// stop's line, one after the other. All memory is taken before the first of them is written.
-pub fn run_last<B: Bus, G: Gate, C: Calls + Sync, R: Threads + Wait + Sync, K: Sink>(
+pub fn run_last<B: Bus, G: Gate, C: Calls + Sync, R: Threads + Wait + Sync, K: Sink, Q: Limit>(
     rt: &R,
     alloc: Global,
     world: &mut World,
     bus: &mut B,
     gate: &G,
     natives: &C,
+    limit: &Q,
     out: &mut K,
     trace: bool,
     last: u16,
@@ -188,7 +204,7 @@ pub fn run_last<B: Bus, G: Gate, C: Calls + Sync, R: Threads + Wait + Sync, K: S
     requires loaded { B.script bus.old ≡ bus_rules world.old.mission }
     requires some { 1 ≤ last }
     requires few { last ≤ 2000 }
-    ensures { RunsLast B.may last trace world.old.mission (bus_value (B.log bus.old) (B.script bus.old))
+    ensures { RunsLast B.may last trace world.old.mission world.old.mission.actuator (bus_value (B.log bus.old) (B.script bus.old))
         (bus_value (B.log bus.new) (B.script bus.new)) (sink_view (K.written out.old) (K.faults out.old))
         (sink_view (K.written out.new) (K.faults out.new)) result }
 {
@@ -198,7 +214,19 @@ pub fn run_last<B: Bus, G: Gate, C: Calls + Sync, R: Threads + Wait + Sync, K: S
     let Ok(mut log) = FlightLog::new(alloc, last) else {
         return Err(RunStop::NoMemory);
     };
-    match keep_cycles(rt, alloc, world, bus, gate, natives, trace, &mut log) {
+    let mut actuator = first_gate(world.mission());
+    match keep_cycles(
+        rt,
+        alloc,
+        world,
+        bus,
+        gate,
+        natives,
+        limit,
+        &mut actuator,
+        trace,
+        &mut log,
+    ) {
         Ok(()) => told(put_kept(alloc, world.mission(), &head, &log, out)),
         Err(halt) => Err(tell_kept(alloc, halt, &head, &log, out)),
     }

@@ -1,6 +1,7 @@
 //! Running a mission: cycle by cycle over a bus, with its text written part by part.
 #![tactic(auto)]
 
+mod driving;
 mod keeping;
 mod running;
 mod stop;

@@ -1,11 +1,12 @@
 //! Runs a mission and writes its text.
-ghost use Rattle.std.specs.Prelude.{◌≡◌, suc};
-ghost use Rattle.guards_model.specs.Missions.{MissionValue, IsMission, bus_rules};
+ghost use Rattle.std.specs.Prelude.{◌≡◌, ◌<◌, suc, Option};
+ghost use Rattle.guards_model.specs.Missions.{MissionValue, IsMission, bus_rules, ActuatorValue};
 ghost use Rattle.guards_world.specs.Worlds.{first_world};
-ghost use Rattle.guards_world.specs.WorldCycle.{BusValue, MayCycle};
+ghost use Rattle.guards_world.specs.WorldCycle.{BusValue};
 ghost use Rattle.ideal_run.specs.Writes.{SinkView, sink_view};
 ghost use Rattle.world_run.specs.Running.{bus_value, told_by, IsAt, Runs, GoesTo, TellsHalt};
 
+use crate::driving::{first_gate, pass};
 use crate::stop::RunStop;
 use crate::writing::{put_cycle, put_end, put_head, tell_stop};
 use ctx_lock::Gate;
@@ -14,6 +15,7 @@ use icn_bus::Bus;
 use icn_world::{Halt, World};
 use ideal_run::WriteStop;
 use native_calls::Calls;
+use output_gate::{Limit, OutputGate};
 use std::alloc::Global;
 use std::sync::Wait;
 use std::thread::Threads;
@@ -44,76 +46,97 @@ pub fn end<K: Sink>(alloc: Global, halt: Halt, out: &mut K) -> RunStop
     }
 }
 
-/// Passes one more cycle, and writes its part.
-fn step<B: Bus, G: Gate, C: Calls + Sync, R: Threads + Wait + Sync, K: Sink>(
+/// Passes one more cycle with its exchange, and writes its part.
+fn step<B: Bus, G: Gate, C: Calls + Sync, R: Threads + Wait + Sync, K: Sink, Q: Limit>(
     rt: &R,
     alloc: Global,
     world: &mut World,
     bus: &mut B,
     gate: &G,
     natives: &C,
+    limit: &Q,
+    actuator: &mut Option<OutputGate>,
     out: &mut K,
     trace: bool,
 ) -> Result<(), RunStop>
-    requires { MayCycle world.old (bus_value (B.log bus.old) (B.script bus.old)) }
-    ensures { (M : MissionValue) (start : BusValue) (begun : SinkView) →
-        IsAt B.may trace M start begun world.old (bus_value (B.log bus.old) (B.script bus.old)) (sink_view (K.written out.old) (K.faults out.old)) →
-        GoesTo B.may trace M start begun (suc world.old.done) world.new (bus_value (B.log bus.new) (B.script bus.new))
+    requires below { world.old.done < world.old.mission.cycles }
+    requires at { (o : Option ActuatorValue) × (M : MissionValue) × (start : BusValue) × (begun : SinkView) ×
+        IsAt B.may trace M o start begun world.old (bus_value (B.log bus.old) (B.script bus.old)) actuator.old (sink_view (K.written out.old) (K.faults out.old)) }
+    ensures { (o : Option ActuatorValue) (M : MissionValue) (start : BusValue) (begun : SinkView) →
+        IsAt B.may trace M o start begun world.old (bus_value (B.log bus.old) (B.script bus.old)) actuator.old (sink_view (K.written out.old) (K.faults out.old)) →
+        GoesTo B.may trace M o start begun (suc world.old.done) world.new (bus_value (B.log bus.new) (B.script bus.new)) actuator.new
         (sink_view (K.written out.new) (K.faults out.new)) result }
 {
-    match world.cycle(rt, alloc, bus, gate, natives) {
-        Ok(part) => told(put_cycle(alloc, world.mission(), &part, trace, out)),
+    match pass(rt, alloc, world, bus, gate, natives, limit, actuator) {
+        Ok(part) => told(put_cycle(alloc, world.mission(), &part, actuator, trace, out)),
         Err(halt) => Err(end(alloc, halt, out)),
     }
 }
 
 /// Passes all cycles, and writes their parts.
-fn run_cycles<B: Bus, G: Gate, C: Calls + Sync, R: Threads + Wait + Sync, K: Sink>(
+fn run_cycles<B: Bus, G: Gate, C: Calls + Sync, R: Threads + Wait + Sync, K: Sink, Q: Limit>(
     rt: &R,
     alloc: Global,
     world: &mut World,
     bus: &mut B,
     gate: &G,
     natives: &C,
+    limit: &Q,
+    actuator: &mut Option<OutputGate>,
     out: &mut K,
     trace: bool,
 ) -> Result<(), RunStop>
     requires fresh { world.old.done ≡ 0 }
-    requires at { (M : MissionValue) × (start : BusValue) × (begun : SinkView) ×
-        IsAt B.may trace M start begun world.old (bus_value (B.log bus.old) (B.script bus.old)) (sink_view (K.written out.old) (K.faults out.old)) }
-    ensures { (M : MissionValue) (start : BusValue) (begun : SinkView) →
-        IsAt B.may trace M start begun world.old (bus_value (B.log bus.old) (B.script bus.old)) (sink_view (K.written out.old) (K.faults out.old)) →
-        GoesTo B.may trace M start begun M.cycles world.new (bus_value (B.log bus.new) (B.script bus.new))
+    requires at { (o : Option ActuatorValue) × (M : MissionValue) × (start : BusValue) × (begun : SinkView) ×
+        IsAt B.may trace M o start begun world.old (bus_value (B.log bus.old) (B.script bus.old)) actuator.old (sink_view (K.written out.old) (K.faults out.old)) }
+    ensures { (o : Option ActuatorValue) (M : MissionValue) (start : BusValue) (begun : SinkView) →
+        IsAt B.may trace M o start begun world.old (bus_value (B.log bus.old) (B.script bus.old)) actuator.old (sink_view (K.written out.old) (K.faults out.old)) →
+        GoesTo B.may trace M o start begun M.cycles world.new (bus_value (B.log bus.new) (B.script bus.new)) actuator.new
         (sink_view (K.written out.new) (K.faults out.new)) result }
 {
     for cycle in 0..world.mission().cycles() {
         let _cycle = cycle;
-        step(rt, alloc, world, bus, gate, natives, out, trace)?;
+        step(
+            rt, alloc, world, bus, gate, natives, limit, actuator, out, trace,
+        )?;
     }
     Ok(())
 }
 
 /// Runs the world's mission from its start over a bus that has the mission's rules, and writes the report, or with
-/// `trace` the report with the trace lines: part by part, each cycle's when the cycle is over. The first stop ends it, and
-/// so does a part that is not written.
-pub fn run<B: Bus, G: Gate, C: Calls + Sync, R: Threads + Wait + Sync, K: Sink>(
+/// `trace` the report with the trace lines: part by part, each cycle's when the cycle is over and its output slot, if the
+/// mission has an actuator. The first stop ends it, and so does a part that is not written.
+pub fn run<B: Bus, G: Gate, C: Calls + Sync, R: Threads + Wait + Sync, K: Sink, Q: Limit>(
     rt: &R,
     alloc: Global,
     world: &mut World,
     bus: &mut B,
     gate: &G,
     natives: &C,
+    limit: &Q,
     out: &mut K,
     trace: bool,
 ) -> Result<(), RunStop>
     requires fresh { world.old ≡ first_world world.old.mission }
     requires mission { IsMission world.old.mission }
     requires loaded { B.script bus.old ≡ bus_rules world.old.mission }
-    ensures { Runs B.may trace world.old.mission (bus_value (B.log bus.old) (B.script bus.old))
+    ensures { Runs B.may trace world.old.mission world.old.mission.actuator (bus_value (B.log bus.old) (B.script bus.old))
         (bus_value (B.log bus.new) (B.script bus.new)) (sink_view (K.written out.old) (K.faults out.old))
         (sink_view (K.written out.new) (K.faults out.new)) result }
 {
+    let mut actuator = first_gate(world.mission());
     told(put_head(alloc, world.mission(), out))?;
-    run_cycles(rt, alloc, world, bus, gate, natives, out, trace)?;
+    run_cycles(
+        rt,
+        alloc,
+        world,
+        bus,
+        gate,
+        natives,
+        limit,
+        &mut actuator,
+        out,
+        trace,
+    )?;
     told(put_end(alloc, world.mission(), out))
 }

@@ -1,8 +1,9 @@
 //! Writes the text of a run, part by part.
-ghost use Rattle.std.specs.Prelude.{◌≡◌, IfOk};
+ghost use Rattle.std.specs.Prelude.{◌≡◌, ◌≤◌, ◌++◌, IfOk, OnOk, Some, length};
+ghost use Rattle.output_gate.specs.Gates.{GateValue};
 ghost use Rattle.ideal_run.specs.Report.{head, last};
 ghost use Rattle.ideal_run.specs.Writes.{sink_view};
-ghost use Rattle.world_run.specs.Running.{Puts, Refuses, TellsStop, cycle_text, stop_text, stop_value};
+ghost use Rattle.world_run.specs.Running.{Puts, Refuses, TellsStop, bare_text, cycle_text, stop_text, stop_value, words_line};
 
 use crate::stop::RunStop;
 use guards_base::{ChanSet, CycleRecord, Text};
@@ -10,6 +11,7 @@ use guards_io::Sink;
 use guards_model::Slot;
 use ideal_run::{WriteStop, write_all};
 use mission_type::Mission;
+use output_gate::OutputGate;
 use std::alloc::{AllocError, Global};
 
 /// Writes one part. A part without bytes is not given.
@@ -52,14 +54,15 @@ pub fn put_head<K: Sink>(alloc: Global, mission: &Mission, out: &mut K) -> Resul
     put(out, text.as_str())
 }
 
-#[tactic(auto, unfolding(crate::specs::Running::cycle_text))]
-pub(crate) fn cycle_text(
+/// The part of a cycle, with its trace lines where `trace` says so.
+#[tactic(auto, unfolding(crate::specs::Running::bare_text))]
+fn bare_text(
     alloc: Global,
     mission: &Mission,
     part: &CycleRecord,
     trace: bool,
 ) -> Result<Text, AllocError>
-    ensures { IfOk result (λ text. text ≡ cycle_text trace mission.now part.now) }
+    ensures { IfOk result (λ text. text ≡ bare_text trace mission.now part.now) }
 {
     mission.know_sizes();
     let channels = mission.rules().channels;
@@ -70,18 +73,55 @@ pub(crate) fn cycle_text(
     Ok(text)
 }
 
-/// Writes the part of a cycle, with its trace lines where `trace` says so.
+/// Appends the line of an actuator's words, if there is one.
+fn push_words(
+    alloc: Global,
+    text: &mut Text,
+    actuator: &Option<OutputGate>,
+    outputs: u8,
+) -> Result<(), AllocError>
+    requires few { outputs ≤ 8 }
+    requires fits { (g : GateValue) → actuator.now ≡ Some g → length g.words ≡ outputs }
+    ensures { OnOk result (text.new ≡ text.old ++ words_line actuator.now) }
+{
+    match actuator {
+        Some(gate) => report_text::write_out(alloc, text, &gate.words(), outputs),
+        None => Ok(()),
+    }
+}
+
+/// The part of a cycle with the line of an actuator's words, if there is one.
+pub(crate) fn cycle_text(
+    alloc: Global,
+    mission: &Mission,
+    part: &CycleRecord,
+    actuator: &Option<OutputGate>,
+    trace: bool,
+) -> Result<Text, AllocError>
+    requires { (g : GateValue) → actuator.now ≡ Some g → length g.words ≡ length mission.now.outputs }
+    ensures { IfOk result (λ text. text ≡ cycle_text trace mission.now actuator.now part.now) }
+{
+    mission.know_sizes();
+    let outputs = mission.outputs().len() as u8;
+    let mut text = bare_text(alloc, mission, part, trace)?;
+    push_words(alloc, &mut text, actuator, outputs)?;
+    Ok(text)
+}
+
+/// Writes the part of a cycle, with its trace lines where `trace` says so and with the line of an actuator's words.
 pub fn put_cycle<K: Sink>(
     alloc: Global,
     mission: &Mission,
     part: &CycleRecord,
+    actuator: &Option<OutputGate>,
     trace: bool,
     out: &mut K,
 ) -> Result<(), WriteStop>
+    requires { (g : GateValue) → actuator.now ≡ Some g → length g.words ≡ length mission.now.outputs }
     ensures { Puts (sink_view (K.written out.old) (K.faults out.old))
-        (sink_view (K.written out.new) (K.faults out.new)) (cycle_text trace mission.now part.now) result }
+        (sink_view (K.written out.new) (K.faults out.new)) (cycle_text trace mission.now actuator.now part.now) result }
 {
-    let Ok(text) = cycle_text(alloc, mission, part, trace) else {
+    let Ok(text) = cycle_text(alloc, mission, part, actuator, trace) else {
         return Err(WriteStop::Memory);
     };
     put(out, text.as_str())

@@ -32,12 +32,12 @@ last_round-requires g c =
     (then_slot Round1 Round2 refl (λ L now steps within. within)
     (then_slot Request Round1 refl (λ L now steps within. within) c.in_ok-ask.ensures c.in_ok-round.ensures) c.in_ok-round-2.ensures)
 
-pub returns-in_err-settled : goal.returns-in_err-settled
-returns-in_err-settled g c =
+pub returns-in_err-reconfiguration : goal.returns-in_err-reconfiguration
+returns-in_err-reconfiguration g c =
     then_slot Round2 Round3 refl (λ L now steps within. within)
     (then_slot Round1 Round2 refl (λ L now steps within. within)
     (then_slot Request Round1 refl (λ L now steps within. within) c.in_ok-ask.ensures c.in_ok-round.ensures) c.in_ok-round-2.ensures)
-    (halted_by c.from_residual-in_err-settled.result c.from_residual-in_err-settled.ensures.1 c.in_err-settled.ensures)
+    (halted_by c.from_residual-in_err-reconfiguration.result c.from_residual-in_err-reconfiguration.ensures.1 c.in_err-reconfiguration.ensures)
 
 pub pass_slot-requires-clause-stands : goal.pass_slot-requires-clause-stands
 pass_slot-requires-clause-stands g c =
@@ -45,7 +45,7 @@ pass_slot-requires-clause-stands g c =
     (then_slot Round2 Round3 refl (λ L now steps within. within)
     (then_slot Round1 Round2 refl (λ L now steps within. within)
     (then_slot Request Round1 refl (λ L now steps within. within) c.in_ok-ask.ensures c.in_ok-round.ensures) c.in_ok-round-2.ensures)
-    c.in_ok-settled.ensures)
+    c.in_ok-reconfiguration.ensures)
 
 pub returns-in_err-pass_slot : goal.returns-in_err-pass_slot
 returns-in_err-pass_slot g c =
@@ -53,7 +53,7 @@ returns-in_err-pass_slot g c =
     (then_slot Round2 Round3 refl (λ L now steps within. within)
     (then_slot Round1 Round2 refl (λ L now steps within. within)
     (then_slot Request Round1 refl (λ L now steps within. within) c.in_ok-ask.ensures c.in_ok-round.ensures) c.in_ok-round-2.ensures)
-    c.in_ok-settled.ensures)
+    c.in_ok-reconfiguration.ensures)
     (halted_by c.from_residual-in_err-pass_slot.result c.from_residual-in_err-pass_slot.ensures.1 c.in_err-pass_slot.ensures)
 
 pub returns : goal.returns
@@ -62,5 +62,5 @@ returns g c =
     (then_slot Round2 Round3 refl (λ L now steps within. within)
     (then_slot Round1 Round2 refl (λ L now steps within. within)
     (then_slot Request Round1 refl (λ L now steps within. within) c.in_ok-ask.ensures c.in_ok-round.ensures) c.in_ok-round-2.ensures)
-    c.in_ok-settled.ensures)
+    c.in_ok-reconfiguration.ensures)
     c.in_ok-pass_slot.ensures

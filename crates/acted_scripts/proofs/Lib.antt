@@ -1,0 +1,3 @@
+pub mod ActedLogs
+pub mod ActedWords
+pub mod ActedEnds
