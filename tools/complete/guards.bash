@@ -3,7 +3,7 @@ _guards() {
     local before=("${COMP_WORDS[@]:1:COMP_CWORD-1}") word=${COMP_WORDS[COMP_CWORD]}
     [ "${before[0]-}" = --unproved ] && before=("${before[@]:1}")
     case "${before[*]-}" in
-    '') mapfile -t COMPREPLY < <(compgen -W 'run check demo --unproved --help' -- "$word") ;;
+    '') mapfile -t COMPREPLY < <(compgen -W 'run check demo audit --unproved --help' -- "$word") ;;
     run) mapfile -t COMPREPLY < <(compgen -W '--trace --last' -- "$word") ;;
     'run --trace') mapfile -t COMPREPLY < <(compgen -W '--last' -- "$word") ;;
     'run --last '[0-9]*) mapfile -t COMPREPLY < <(compgen -W '--trace' -- "$word") ;;

@@ -11,11 +11,10 @@ use Rattle.guards_model.specs.Texts.{TextValue, Part, RecordValue, head_line, do
 use Rattle.guards_runs.specs.Cycles.{Past, next_cycle, cycles_before}
 use Rattle.guards_runs.specs.Disturbed.{stop_of}
 use Rattle.guards_runs.specs.Outputs.{acted_stop, words_after, ideal_outputs}
-use Rattle.guards_runs.specs.ActedReport.{acted_parts, acted_told, acted_histories, acted_run_parts, parts_with, whole_report}
-use Rattle.guards_runs.specs.Promises.{EachCycle, Agrees}
+use Rattle.guards_runs.specs.ActedReport.{acted_parts, acted_told, acted_histories, acted_run_parts, acted_report}
+use Rattle.guards_runs.specs.Promises.{EachCycle}
 use Rattle.guards_runs.specs.Soundness.{IsSoundCycle}
-use Rattle.guards_runs.specs.Report.{cycle_record, cycle_parts, parts_of, told_histories, traced_parts, latest_steps, earlier_steps}
-use Rattle.guards_world.specs.WorldCycle.{AreFull}
+use Rattle.guards_runs.specs.Report.{cycle_record, cycle_parts, parts_of, told_histories, traced_parts, traced, latest_steps, earlier_steps}
 use Rattle.run_laws.specs.Runs.{AreDueBy}
 use Rattle.report_lines.specs.Lines.{head_told, out_told, done_told, is_small, some_that, lines_in}
 use Rattle.guards_audit.specs.Told.{Told, next_number, words_told}
@@ -24,7 +23,9 @@ use Rattle.guards_audit.specs.Consistency.{Place, at_head, between, awaits_out, 
 use Rattle.report_lines.proofs.PrintedLines.{are_more, AreParts, are_more_parts, all_lines, lines_of_parts, head_is_line, out_is_line, done_is_line, cycle_part_is_lines}
 use Rattle.guards_laws.proofs.FirstStop.{told_whole}
 use Rattle.guards_model.proofs.BoolTests.{and_true}
-use Rattle.audit_laws.specs.Ends.{CameToEnd}
+use Rattle.audit_laws.specs.Ends.{AreSoundlyDone}
+use Rattle.acted_runs.specs.Acting.{AreActedBy}
+use Rattle.acted_runs.specs.Driving.{CyclesRan, told_text}
 use Rattle.audit_laws.proofs.SameLists.{number_same, words_same}
 use Rattle.audit_laws.proofs.GoodCycle.{good_append, cycle_good}
 use Rattle.audit_laws.proofs.RunRecords.{records, length-records, HasLine}
@@ -52,11 +53,6 @@ acted_are_lines M a F histories (e ∷ past) =
     (are_more (cycle_part true r) (out ∷ []) (cycle_part_is_lines true r) (out_is_line (words_after M a F (suc (length past))), tt), tt)
 
 -- ---- the cycles are told by good lines
-
--- what is needed of some cycles and the histories beside them
-abbrev pub AreSoundlyDone : MissionValue → Histories → Past → Type 0
-AreSoundlyDone M histories [] = Unit {0}
-AreSoundlyDone M histories (e ∷ past) = Agrees M past e × AreFull M past e (latest_steps histories) × AreSoundlyDone M (earlier_steps histories) past
 
 pub each_line : (M : MissionValue) (L : Log) (histories : Histories) (n : ℕ) → IsMission M → AreSoundlyDone M histories (cycles_before M L n) → EachCycle (λ past e. HasLine e) (cycles_before M L n)
 each_line M L histories zero mission h = tt
@@ -183,8 +179,14 @@ pub done_by : (M : MissionValue) (histories : Histories) (past : Past) (entries 
 done_by M histories [] entries due sound = tt
 done_by M histories (e ∷ past) entries due sound = (sound.0.agrees, due.5, done_by M (earlier_steps histories) past due.0 due.3 sound.1)
 
-by_actuator : (M : MissionValue) (F : Log) (histories : Histories) → IsMission M → (o : Option ActuatorValue) → M.actuator ≡ o → CameToEnd o M F histories →
-    IsConsistent M (text_of (parts_with o true M F histories))
+-- the same with an actuator
+pub acted_done_by : (M : MissionValue) (histories : Histories) (past : Past) (entries : Log) → AreActedBy M histories past entries → EachCycle (IsSoundCycle M) past → AreSoundlyDone M histories past
+acted_done_by M histories [] entries acted sound = tt
+acted_done_by M histories (e ∷ past) entries acted sound = (sound.0.agrees, acted.6, acted_done_by M (earlier_steps histories) past acted.0 acted.4 sound.1)
+
+by_actuator : (M : MissionValue) (F : Log) (histories : Histories) → IsMission M → (o : Option ActuatorValue) → M.actuator ≡ o → CyclesRan o M M.cycles F histories →
+    IsConsistent M (told_text o true M F histories)
+unfolding traced acted_report
 by_actuator M F histories mission None is ran =
     let cycles = cycles_before M F M.cycles in
     subst (λ ps. IsConsistent M (text_of ps)) (sym (parts_whole M F histories ran.unstopped))
@@ -193,10 +195,9 @@ by_actuator M F histories mission None is ran =
 by_actuator M F histories mission (Some a) is ran =
     let L : Log = without_outputs F in
     let cycles = cycles_before M L M.cycles in
-    subst (λ ps. IsConsistent M (text_of ps)) (sym (acted_whole M a F histories cycles ran.1))
+    subst (λ ps. IsConsistent M (text_of ps)) (sym (acted_whole M a F histories cycles ran.unstopped))
     (text_good M L histories (acted_parts true M a F histories cycles) mission (acted_are_lines M a F histories cycles)
-    (acted_good M L mission a is F ran.2 histories M.cycles (omega arith) (done_by M histories cycles L ran.0.due ran.0.sound.cycles)))
+    (acted_good M L mission a is F ran.ideal histories M.cycles (omega arith) (acted_done_by M histories cycles F ran.acted ran.sound.cycles)))
 
-pub came_consistent : (M : MissionValue) (L : Log) (histories : Histories) → IsMission M → CameToEnd M.actuator M L histories → IsConsistent M (whole_report true M L histories)
-unfolding whole_report
-came_consistent M L histories mission ran = by_actuator M L histories mission M.actuator refl ran
+pub ran_consistent : (M : MissionValue) (F : Log) (histories : Histories) → IsMission M → CyclesRan M.actuator M M.cycles F histories → IsConsistent M (told_text M.actuator true M F histories)
+ran_consistent M F histories mission ran = by_actuator M F histories mission M.actuator refl ran

@@ -26,6 +26,10 @@ check_found : IsFound (codes "check" ∷ [])
 unfolding clap_on_literals command_named has_flag given_number command_of_word
 check_found = (refl, refl)
 
+audit_found : IsFound (codes "audit" ∷ [])
+unfolding clap_on_literals command_named has_flag given_number command_of_word
+audit_found = (refl, refl)
+
 trace_found : IsFound (codes "run" ∷ codes "--trace" ∷ [])
 unfolding clap_on_literals command_named has_flag run_found command_of_pair
 trace_found = (refl, refl)
@@ -140,16 +144,20 @@ last_number trace text is = count_number text (mapped (count_of text) is)
     mapped None none = absurd cc
     mapped (Some n) some = refl
 
-no_word : (word : List ℕ) → bytes_eq word (codes "run") ≡ false → bytes_eq word (codes "check") ≡ false → None ≡ command_of_word word
+no_word : (word : List ℕ) → bytes_eq word (codes "run") ≡ false → bytes_eq word (codes "check") ≡ false → bytes_eq word (codes "audit") ≡ false → None ≡ command_of_word word
 unfolding command_of_word
-no_word word run check = rw (run, check) refl
+no_word word run check audit = rw (run, check, audit) refl
 
 word_found : (word : List ℕ) → is_some (command_of_word word) ≡ true → IsFound (word ∷ [])
 word_found word is = by_run (bytes_eq word (codes "run")) refl (bytes_eq-Decides word (codes "run"))
   where
+    by_audit : bytes_eq word (codes "run") ≡ false → bytes_eq word (codes "check") ≡ false → (b : Bool) → bytes_eq word (codes "audit") ≡ b → Decides b (word ≡ codes "audit") → IsFound (word ∷ [])
+    by_audit run check true e same = subst (λ w. IsFound (w ∷ [])) (sym (same.0 refl)) audit_found
+    by_audit run check false e differs = absurd (none_is (command_of_word word) (no_word word run check e) is)
+
     by_check : bytes_eq word (codes "run") ≡ false → (b : Bool) → bytes_eq word (codes "check") ≡ b → Decides b (word ≡ codes "check") → IsFound (word ∷ [])
     by_check run true e same = subst (λ w. IsFound (w ∷ [])) (sym (same.0 refl)) check_found
-    by_check run false e differs = absurd (none_is (command_of_word word) (no_word word run e) is)
+    by_check run false e differs = by_audit run e (bytes_eq word (codes "audit")) refl (bytes_eq-Decides word (codes "audit"))
 
     by_run : (b : Bool) → bytes_eq word (codes "run") ≡ b → Decides b (word ≡ codes "run") → IsFound (word ∷ [])
     by_run true e same = subst (λ w. IsFound (w ∷ [])) (sym (same.0 refl)) plain_found

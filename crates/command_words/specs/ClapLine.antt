@@ -5,7 +5,7 @@ use Rattle.std.specs.Str.{bytes_eq}
 use Rattle.clap.specs.Words.{App, Row, Rule, Shape, Text, first_of, new_app, new_rule, with_rule, with_subcommand}
 use Rattle.clap.specs.declared.builder.action.ArgAction.TheVariants.{Set, SetTrue}
 use Rattle.command_words.specs.declared.command.Command.{Command}
-use Rattle.command_words.specs.declared.command.Command.TheVariants.{Run, Check, Demo}
+use Rattle.command_words.specs.declared.command.Command.TheVariants.{Run, Check, Demo, Audit}
 use Rattle.command_words.specs.Commands.{number_of, run_last}
 
 -- the flag `--trace`
@@ -29,6 +29,9 @@ check_shape = (new_app (codes "check")).top
 abbrev pub demo_shape : Shape
 demo_shape = (with_rule (new_app (codes "demo")) number_rule).top
 
+abbrev pub audit_shape : Shape
+audit_shape = (new_app (codes "audit")).top
+
 -- the words begin with a subcommand, and help is none
 abbrev pub guards_top : Shape
 guards_top = record (new_app (codes "guards")).top {
@@ -39,7 +42,10 @@ guards_top = record (new_app (codes "guards")).top {
 }
 
 abbrev pub guards_app : App
-guards_app = with_subcommand (with_subcommand (with_subcommand (record { top = guards_top; subs = [] }) run_shape) check_shape) demo_shape
+guards_app =
+    with_subcommand
+    (with_subcommand (with_subcommand (with_subcommand (record { top = guards_top; subs = [] }) run_shape) check_shape) demo_shape)
+    audit_shape
 
 -- whether the flag was given
 unfoldable pub has_flag : Text → List Row → Bool
@@ -62,7 +68,8 @@ unfoldable pub command_named : Text → List Row → Option Command
 command_named name rows =
     if bytes_eq name (codes "run") then run_found rows
     else (if bytes_eq name (codes "check") then Some Check
-    else option_map Demo (given_number (codes "number") rows))
+    else (if bytes_eq name (codes "audit") then Some Audit
+    else option_map Demo (given_number (codes "number") rows)))
 
 abbrev pub command_found : Option (Text × List Row) → Option Command
 command_found None = None

@@ -5,7 +5,7 @@ use Rattle.std.specs.List.{list_all}
 use Rattle.std.specs.Str.{bytes_eq}
 use Rattle.std.specs.Str.Parse.{digits_value}
 use Rattle.command_words.specs.declared.command.Command.{Command}
-use Rattle.command_words.specs.declared.command.Command.TheVariants.{Run, Check, Demo}
+use Rattle.command_words.specs.declared.command.Command.TheVariants.{Run, Check, Demo, Audit}
 
 -- one to twenty digits
 abbrev pub is_number : List ℕ → Bool
@@ -29,7 +29,9 @@ run_last trace count = option_map (λ k. Run trace (Some k)) (count_of count)
 -- the command of one word
 unfoldable pub command_of_word : List ℕ → Option Command
 command_of_word word =
-    if bytes_eq word (codes "run") then Some (Run false None) else (if bytes_eq word (codes "check") then Some Check else None)
+    if bytes_eq word (codes "run") then Some (Run false None)
+    else (if bytes_eq word (codes "check") then Some Check
+    else (if bytes_eq word (codes "audit") then Some Audit else None))
 
 -- the command of two words
 unfoldable pub command_of_pair : List ℕ → List ℕ → Option Command
@@ -50,7 +52,8 @@ command_of_four word first second third =
     else (if bytes_eq first (codes "--last") && bytes_eq third (codes "--trace") then run_last true second else None))
     else None
 
--- exactly `run`, `run --trace`, `run --last K`, `run --trace --last K`, `run --last K --trace`, `check` and `demo N` are commands
+-- exactly `run`, `run --trace`, `run --last K`, `run --trace --last K`, `run --last K --trace`, `check`, `demo N` and `audit`
+-- are commands
 abbrev pub command_of : List (List ℕ) → Option Command
 command_of (word ∷ []) = command_of_word word
 command_of (word ∷ value ∷ []) = command_of_pair word value

@@ -53,4 +53,6 @@ pub enum Command {
     Check,
     /// Runs the demo mission of a number.
     Demo(u64),
+    /// Judges the trace of a run by its mission, which the source gives both.
+    Audit,
 }

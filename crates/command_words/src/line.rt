@@ -1,4 +1,4 @@
-//! The command line as `clap` is told it: three subcommands.
+//! The command line as `clap` is told it: four subcommands.
 ghost use Rattle.std.specs.Prelude.{◌≡◌, IfOk, false};
 ghost use Rattle.clap.specs.Words.{app_of, shape_of};
 ghost use Rattle.clap.specs.declared.builder.command.Command.TheViews.{out-Command};
@@ -35,10 +35,14 @@ pub(crate) fn guards_line<'a>(alloc: Global) -> Result<Line<'a>, AllocError>
     let run = run_line(alloc)?;
     let check = Line::new(alloc, "check");
     let demo = demo_line(alloc)?;
+    let audit = Line::new(alloc, "audit");
     let line = Line::new(alloc, "guards")
         .no_binary_name(true)
         .disable_help_flag(true)
         .disable_help_subcommand(true)
         .subcommand_required(true);
-    line.subcommand(run)?.subcommand(check)?.subcommand(demo)
+    line.subcommand(run)?
+        .subcommand(check)?
+        .subcommand(demo)?
+        .subcommand(audit)
 }

@@ -53,6 +53,8 @@ fn command_named(name: &str, found: &ArgMatches) -> Option<Command>
         run_found(found)
     } else if name == "check" {
         Some(Command::Check)
+    } else if name == "audit" {
+        Some(Command::Audit)
     } else {
         given_number(found, "number").map(Command::Demo)
     }
@@ -95,9 +97,9 @@ fn read_words(alloc: Global, words: &[&str]) -> Result<Option<Command>, AllocErr
 }
 
 /// The command of the words that follow the program's name, or none. It is `run`, `run --trace`, `run --last K`,
-/// `run --trace --last K` or `run --last K --trace` with a number K of one to four digits from 1 to 2,000, `check`, or
-/// `demo N` with a number of one to twenty digits below two to the 64th; no other list of words is a command, also not
-/// one with `--`, with a joined spelling or with a call for help.
+/// `run --trace --last K` or `run --last K --trace` with a number K of one to four digits from 1 to 2,000, `check`,
+/// `demo N` with a number of one to twenty digits below two to the 64th, or `audit`; no other list of words is a command,
+/// also not one with `--`, with a joined spelling or with a call for help.
 pub fn read_command(alloc: Global, words: &Words) -> Result<Option<Command>, AllocError>
     ensures { IfOk result (λ command. command ≡ command_of words.now.items) }
 {

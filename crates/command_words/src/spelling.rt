@@ -75,6 +75,8 @@ fn command_of_word(word: &str) -> Option<Command>
         })
     } else if word == "check" {
         Some(Command::Check)
+    } else if word == "audit" {
+        Some(Command::Audit)
     } else {
         None
     }

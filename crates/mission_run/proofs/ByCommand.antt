@@ -5,7 +5,7 @@ use Rattle.guards_model.specs.Network.{EntryValue}
 use Rattle.command_words.specs.Commands.{command_of}
 use Rattle.command_words.specs.declared.command.Command.{Command}
 use Rattle.mission_run.specs.declared.status.Status.{Status}
-use Rattle.mission_run.specs.declared.status.Status.TheVariants.{Done, Usage, BadMission, TooLong, ReadFault, WriteFault, TooManyDisturbed, NoMemory}
+use Rattle.mission_run.specs.declared.status.Status.TheVariants.{Done, Usage, BadMission, TooLong, ReadFault, WriteFault, TooManyDisturbed, NoMemory, NotARun}
 use Rattle.mission_run.specs.TopCall.{Outside, Serves, Outcome}
 
 module _ (may : List RuleValue → EntryValue → Type 0) (words : List (List ℕ)) (old new : Outside) (P : Command → Status → Type 0)
@@ -30,3 +30,4 @@ module _ (may : List RuleValue → EntryValue → Type 0) (words : List (List �
   by_command short WriteFault outcome asked is = by_words asked outcome.0 WriteFault outcome.1 outcome.2 is
   by_command short (TooManyDisturbed cycle slot set active) outcome asked is =
       by_words asked outcome.0 (TooManyDisturbed cycle slot set active) outcome.1 outcome.2 is
+  by_command short (NotARun line) outcome asked is = by_words asked outcome.0 (NotARun line) outcome.1 outcome.2 is

@@ -24,10 +24,11 @@ use Rattle.run_laws.specs.Runs.{Ran}
 use Rattle.world_run.specs.Running.{stop_value}
 use Rattle.mission_run.specs.declared.limit.TheConstants.{LIMIT}
 use Rattle.mission_run.specs.declared.status.Status.{Status}
-use Rattle.mission_run.specs.declared.status.Status.TheVariants.{Done, Usage, BadMission, TooLong, ReadFault, WriteFault, TooManyDisturbed, NoMemory}
+use Rattle.mission_run.specs.declared.status.Status.TheVariants.{Done, Usage, BadMission, TooLong, ReadFault, WriteFault, TooManyDisturbed, NoMemory, NotARun}
 use Rattle.mission_run.specs.Reading.{OfMission, Tells}
 use Rattle.mission_run.specs.TopCall.{Outside, RunsMission, RunsMissionLast, RunsTold, RunsDemo, Serves, Outcome, CompletesCommand, Completes}
 use Rattle.mission_run.proofs.Complete.{refused_for_memory, same_mission, told_to_end}
+use Rattle.mission_run.proofs.Audited.{audit_completes}
 use Rattle.mission_run.proofs.ByCommand.{by_command}
 
 -- the entries of a run are those that the log grew by
@@ -49,6 +50,7 @@ module _ (may : List RuleValue → EntryValue → Type 0) (M : MissionValue) (bu
   run_to_end trace out out' WriteFault L ran grew goes_on no_write = absurd (no_write ran.6)
   run_to_end trace out out' (TooManyDisturbed cycle slot set active) L ran grew goes_on no_write =
       absurd (not_stopped M.actuator ran.0 L (stop_value cycle slot set active) ran.1 ran.3 ran.4 grew goes_on)
+  run_to_end trace out out' (NotARun line) L ran grew goes_on no_write = absurd ran
   run_to_end trace out out' Usage L ran grew goes_on no_write = absurd ran
   run_to_end trace out out' (BadMission why) L ran grew goes_on no_write = absurd ran
   run_to_end trace out out' TooLong L ran grew goes_on no_write = absurd ran
@@ -61,6 +63,7 @@ module _ (may : List RuleValue → EntryValue → Type 0) (M : MissionValue) (bu
   last_to_end k trace out out' WriteFault L ran grew goes_on no_write = absurd (no_write ran.5)
   last_to_end k trace out out' (TooManyDisturbed cycle slot set active) L ran grew goes_on no_write =
       absurd (not_stopped M.actuator ran.0 L (stop_value cycle slot set active) ran.1 ran.3 ran.4 grew goes_on)
+  last_to_end k trace out out' (NotARun line) L ran grew goes_on no_write = absurd ran
   last_to_end k trace out out' Usage L ran grew goes_on no_write = absurd ran
   last_to_end k trace out out' (BadMission why) L ran grew goes_on no_write = absurd ran
   last_to_end k trace out out' TooLong L ran grew goes_on no_write = absurd ran
@@ -78,6 +81,7 @@ demo_to_end may number bus bus' out out' NoMemory L ran grew goes_on no_write = 
 demo_to_end may number bus bus' out out' WriteFault L ran grew goes_on no_write = absurd (no_write ran.5)
 demo_to_end may number bus bus' out out' (TooManyDisturbed cycle slot set active) L ran grew goes_on no_write =
     absurd (not_stopped may (demo_mission number) bus bus' None ran.0 L (stop_value cycle slot set active) ran.1 ran.2 ran.3 grew goes_on)
+demo_to_end may number bus bus' out out' (NotARun line) L ran grew goes_on no_write = absurd ran
 demo_to_end may number bus bus' out out' Usage L ran grew goes_on no_write = absurd ran
 demo_to_end may number bus bus' out out' (BadMission why) L ran grew goes_on no_write = absurd ran
 demo_to_end may number bus bus' out out' TooLong L ran grew goes_on no_write = absurd ran
@@ -97,11 +101,13 @@ module _ (may : List RuleValue → EntryValue → Type 0) (old new : Outside) (s
           (Rose old.source.faults new.source.faults → ⊥) → (Rose old.sink.faults new.sink.faults → ⊥) → (status ≡ Done) ⊎ (status ≡ NoMemory)
       by (inl refused) bytes M told within is no_read no_write = refused_for_memory old.source new.source old.sink new.sink status bytes M refused.0 told within is no_read
       by (inr ran) bytes M told within is no_read no_write = told_to_end (check_of ran.1) old.sink new.sink status ran.4 no_write
+  served command.Audit (audits, kept) = audit_completes old.source new.source old.sink new.sink status audits
   served (command.Demo number) (kept, ran) = λ L grew goes_on no_read no_write. demo_to_end may number old.bus new.bus old.sink new.sink status L ran grew goes_on no_write
 
 short_completes : (asked : Command) (old new : Outside) → CompletesCommand asked old new NoMemory
 short_completes (command.Run trace last) old new = λ bytes M told within is L grew goes_on no_read no_write. inr refl
 short_completes command.Check old new = λ bytes M told within is no_read no_write. inr refl
+short_completes command.Audit old new = λ input M told within fits is no_read no_write. inr (inr refl)
 short_completes (command.Demo number) old new = λ L grew goes_on no_read no_write. inr refl
 
 pub outcome_completes : (may : List RuleValue → EntryValue → Type 0) (words : List (List ℕ)) (old new : Outside) (status : Status) → Outcome may words old new status → Completes words old new status

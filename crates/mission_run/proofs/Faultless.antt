@@ -40,7 +40,7 @@ use Rattle.world_run.specs.Running.{stop_value}
 use Rattle.command_words.specs.declared.command.Command.{Command}
 use Rattle.command_words.specs.declared.command.Command.TheVariants as command
 use Rattle.mission_run.specs.declared.status.Status.{Status}
-use Rattle.mission_run.specs.declared.status.Status.TheVariants.{Done, Usage, BadMission, TooLong, ReadFault, WriteFault, TooManyDisturbed, NoMemory}
+use Rattle.mission_run.specs.declared.status.Status.TheVariants.{Done, Usage, BadMission, TooLong, ReadFault, WriteFault, TooManyDisturbed, NoMemory, NotARun}
 use Rattle.mission_run.specs.TopCall.{Outside, RunsMission, RunsMissionLast, RunsTold, Serves, Outcome, DoesScript, HasNoFaults, TellsIdeal, RunsIdeal, EndsWell}
 use Rattle.mission_run.proofs.Complete.{refused_for_memory, same_mission}
 use Rattle.mission_run.proofs.ByCommand.{by_command}
@@ -147,6 +147,7 @@ module _ (may : List RuleValue → EntryValue → Type 0) (does : DoesScript may
     run_is_ideal trace NoMemory ran no_write = inl refl
     run_is_ideal trace WriteFault ran no_write = absurd (no_write ran.6)
     run_is_ideal trace (TooManyDisturbed cycle slot set active) ran no_write = absurd (not_stopped M.actuator ran.0 (stop_value cycle slot set active) ran.1 ran.3 ran.4)
+    run_is_ideal trace (NotARun line) ran no_write = absurd ran
     run_is_ideal trace Usage ran no_write = absurd ran
     run_is_ideal trace (BadMission why) ran no_write = absurd ran
     run_is_ideal trace TooLong ran no_write = absurd ran
@@ -157,6 +158,7 @@ module _ (may : List RuleValue → EntryValue → Type 0) (does : DoesScript may
     last_is_ideal k trace NoMemory ran no_write = inl refl
     last_is_ideal k trace WriteFault ran no_write = absurd (no_write ran.5)
     last_is_ideal k trace (TooManyDisturbed cycle slot set active) ran no_write = absurd (not_stopped M.actuator ran.0 (stop_value cycle slot set active) ran.1 ran.3 ran.4)
+    last_is_ideal k trace (NotARun line) ran no_write = absurd ran
     last_is_ideal k trace Usage ran no_write = absurd ran
     last_is_ideal k trace (BadMission why) ran no_write = absurd ran
     last_is_ideal k trace TooLong ran no_write = absurd ran
@@ -172,6 +174,7 @@ module _ (may : List RuleValue → EntryValue → Type 0) (does : DoesScript may
 abbrev Ideal : Outside → Outside → Command → Status → Type 0
 Ideal old new (command.Run trace last) status = RunsIdeal last trace old new status
 Ideal old new command.Check status = Unit {0}
+Ideal old new command.Audit status = Unit {0}
 Ideal old new (command.Demo number) status = Unit {0}
 
 module _ (may : List RuleValue → EntryValue → Type 0) (does : DoesScript may) (old new : Outside) where
@@ -183,11 +186,13 @@ module _ (may : List RuleValue → EntryValue → Type 0) (does : DoesScript may
       told_is_ideal may does M (read_missions bytes M is) none old.bus new.bus old.sink new.sink last trace status
       (subst (λ J. RunsTold may last trace J old.bus new.bus old.sink new.sink status) same ran.4) no_write
   served command.Check status ran = tt
+  served command.Audit status ran = tt
   served (command.Demo number) status ran = tt
 
 short_of_memory : (asked : Command) (old new : Outside) → Ideal old new asked NoMemory
 short_of_memory (command.Run trace last) old new = λ bytes M told within is none no_read no_write. inl refl
 short_of_memory command.Check old new = tt
+short_of_memory command.Audit old new = tt
 short_of_memory (command.Demo number) old new = tt
 
 pub outcome_ends_well : (may : List RuleValue → EntryValue → Type 0) (words : List (List ℕ)) (old new : Outside) (status : Status) → Outcome may words old new status → EndsWell may words old new status

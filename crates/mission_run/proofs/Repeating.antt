@@ -35,7 +35,7 @@ use Rattle.demo_mission.proofs.IsDemo.{demo_rules_lose}
 use Rattle.command_words.specs.declared.command.Command.{Command}
 use Rattle.command_words.specs.declared.command.Command.TheVariants as command
 use Rattle.mission_run.specs.declared.status.Status.{Status}
-use Rattle.mission_run.specs.declared.status.Status.TheVariants.{Done, Usage, BadMission, TooLong, ReadFault, WriteFault, TooManyDisturbed, NoMemory}
+use Rattle.mission_run.specs.declared.status.Status.TheVariants.{Done, Usage, BadMission, TooLong, ReadFault, WriteFault, TooManyDisturbed, NoMemory, NotARun}
 use Rattle.mission_run.specs.Reading.{RefusesBytes}
 use Rattle.guards_io.specs.Stream.{SourceView}
 use Rattle.mission_run.specs.TopCall.{Outside, RunsMission, RunsMissionLast, RunsTold, RunsDemo, Serves, Outcome, DoesScript, status_of_end, text_or_stop, demo_text, told_report, TellsAsAny, RepeatsCommand, Repeats}
@@ -154,6 +154,7 @@ module _ (may : List RuleValue → EntryValue → Type 0) (does : DoesScript may
         (subst (Appends out.written out'.written) (sym text ∙ text_untraced M L (with_unfinished (M.cycles - cycle) histories) o []) (report_ended before stop ends)))
     run_repeats NoMemory ran = inl refl
     run_repeats WriteFault ran = absurd (no_write ran.6)
+    run_repeats (NotARun line) ran = absurd ran
     run_repeats Usage ran = absurd ran
     run_repeats (BadMission why) ran = absurd ran
     run_repeats TooLong ran = absurd ran
@@ -182,6 +183,7 @@ module _ (may : List RuleValue → EntryValue → Type 0) (does : DoesScript may
           (subst (Appends out.written out'.written) (sym text ∙ short_untraced M L (with_unfinished (M.cycles - cycle) histories) k o []) (line_ended (before ++ stop_line stop) ends)))
       last_repeats NoMemory ran = inl refl
       last_repeats WriteFault ran = absurd (no_write ran.5)
+      last_repeats (NotARun line) ran = absurd ran
       last_repeats Usage ran = absurd ran
       last_repeats (BadMission why) ran = absurd ran
       last_repeats TooLong ran = absurd ran
@@ -217,6 +219,7 @@ module _ (may : List RuleValue → EntryValue → Type 0) (does : DoesScript may
         (subst (Appends out.written out'.written) (sym (ap (text_or_stop (summary number D L)) (this_stop D L histories None stop.cycle stop to))) (line_written stop line)))
     demo_repeats NoMemory ran = inl refl
     demo_repeats WriteFault ran = absurd (no_write ran.5)
+    demo_repeats (NotARun line) ran = absurd ran
     demo_repeats Usage ran = absurd ran
     demo_repeats (BadMission why) ran = absurd ran
     demo_repeats TooLong ran = absurd ran
@@ -238,12 +241,14 @@ module _ (may : List RuleValue → EntryValue → Type 0) (does : DoesScript may
       told_repeats may does old.bus new.bus old.sink new.sink no_write M none last status (subst (λ J. RunsTold may last false J old.bus new.bus old.sink new.sink status) same ran.4)
   served (command.Run true last) status ran = tt
   served command.Check status ran = tt
+  served command.Audit status ran = tt
   served (command.Demo number) status (kept, ran) = λ no_write. demo_repeats may does old.bus new.bus old.sink new.sink no_write number status ran
 
 short_repeats : (asked : Command) (old new : Outside) → RepeatsCommand asked old new NoMemory
 short_repeats (command.Run false last) old new = λ bytes M told within is none no_read no_write. inl refl
 short_repeats (command.Run true last) old new = tt
 short_repeats command.Check old new = tt
+short_repeats command.Audit old new = tt
 short_repeats (command.Demo number) old new = λ no_write. inl refl
 
 pub outcome_repeats : (may : List RuleValue → EntryValue → Type 0) (words : List (List ℕ)) (old new : Outside) (status : Status) → Outcome may words old new status → Repeats may words old new status

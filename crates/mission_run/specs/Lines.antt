@@ -15,13 +15,20 @@ cause_name cause.Duplicate = codes "duplicate"
 cause_name cause.BadExpr = codes "bad-expr"
 
 unfoldable pub usage_line : List ℕ
-usage_line = codes "usage: guards run [--trace] [--last K] | check | demo N\n"
+usage_line = codes "usage: guards run [--trace] [--last K] | check | demo N | audit\n"
 
 unfoldable pub read_line : List ℕ
 read_line = codes "read fault\n"
 
 unfoldable pub long_line : List ℕ
 long_line = codes "mission: too long\n"
+
+-- the lines of the two verdicts on a trace
+unfoldable pub yes_line : List ℕ
+yes_line = codes "audit yes\n"
+
+unfoldable pub no_line : ℕ → List ℕ
+no_line line = codes "audit: no at line " ++ (decimal line ++ codes "\n")
 
 -- the place in an expression's text, where it breaks off there
 abbrev pub place_text : Option ℕ → List ℕ

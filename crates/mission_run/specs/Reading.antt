@@ -11,7 +11,7 @@ use Rattle.check_text.specs.Check.{check_of}
 use Rattle.world_run.specs.Running.{Refuses}
 use Rattle.mission_run.specs.declared.limit.TheConstants.{LIMIT}
 use Rattle.mission_run.specs.declared.status.Status.{Status}
-use Rattle.mission_run.specs.declared.status.Status.TheVariants.{Done, Usage, BadMission, TooLong, ReadFault, WriteFault, TooManyDisturbed, NoMemory}
+use Rattle.mission_run.specs.declared.status.Status.TheVariants.{Done, Usage, BadMission, TooLong, ReadFault, WriteFault, TooManyDisturbed, NoMemory, NotARun}
 use Rattle.mission_run.specs.Lines.{mission_line, long_line, read_line}
 use Rattle.guards_io.specs.Stream.{SourceView}
 
@@ -19,9 +19,13 @@ use Rattle.guards_io.specs.Stream.{SourceView}
 abbrev pub Takes : SourceView → SourceView → List ℕ → Type 0
 Takes old new bytes = Consumes old.left new.left bytes × (new.faults ≡ old.faults)
 
--- The bytes are all that the source had left.
+-- The bytes are all that the source had left, and no more than so many.
+abbrev pub TakesUpTo : ℕ → SourceView → SourceView → List ℕ → Type 0
+TakesUpTo limit old new bytes = (length bytes ≤ limit) × Takes old new bytes × IsAtEnd new.left
+
+-- The bytes are all that the source had left, and no more than a mission has.
 abbrev pub TakesAll : SourceView → SourceView → List ℕ → Type 0
-TakesAll old new bytes = (length bytes ≤ LIMIT) × Takes old new bytes × IsAtEnd new.left
+TakesAll old new bytes = TakesUpTo LIMIT old new bytes
 
 -- What refusing what a source gives does, by the status.
 abbrev pub RefusesBytes : SourceView → SourceView → SinkView → SinkView → Status → Type 0
@@ -39,6 +43,7 @@ RefusesBytes src src' out out' Done = ⊥
 RefusesBytes src src' out out' Usage = ⊥
 RefusesBytes src src' out out' WriteFault = ⊥
 RefusesBytes src src' out out' (TooManyDisturbed cycle slot set active) = ⊥
+RefusesBytes src src' out out' (NotARun line) = ⊥
 
 -- what reading a mission does, by its answer
 abbrev pub ReadsMission : SourceView → SourceView → SinkView → SinkView → Result MissionValue Status → Type 0

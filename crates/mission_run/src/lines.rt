@@ -1,6 +1,6 @@
 //! The lines of refusals.
 ghost use Rattle.std.specs.Prelude.{◌≡◌, string_bytes, IfOk};
-ghost use Rattle.mission_run.specs.Lines.{cause_name, long_line, mission_line, place_text, read_line, usage_line};
+ghost use Rattle.mission_run.specs.Lines.{cause_name, long_line, mission_line, no_line, place_text, read_line, usage_line, yes_line};
 
 use mission_checks::{Cause, Why};
 use std::alloc::{AllocError, Global};
@@ -45,7 +45,7 @@ pub fn mission_line(alloc: Global, why: &Why) -> Result<String, AllocError>
 pub fn usage_line() -> &'static str
     ensures { result.now ≡ usage_line }
 {
-    "usage: guards run [--trace] [--last K] | check | demo N\n"
+    "usage: guards run [--trace] [--last K] | check | demo N | audit\n"
 }
 
 /// The line of a source that failed.
@@ -62,4 +62,20 @@ pub fn long_line() -> &'static str
     ensures { result.now ≡ long_line }
 {
     "mission: too long\n"
+}
+
+/// The line of a trace that is consistent.
+#[tactic(auto, unfolding(crate::specs::Lines::yes_line))]
+pub fn yes_line() -> &'static str
+    ensures { result.now ≡ yes_line }
+{
+    "audit yes\n"
+}
+
+/// The line of a trace that is not, with the first line that is not good.
+#[tactic(auto, unfolding(crate::specs::Lines::no_line))]
+pub fn no_line(alloc: Global, line: u32) -> Result<String, AllocError>
+    ensures { IfOk result (λ text. string_bytes text ≡ no_line line) }
+{
+    format!(in alloc; "audit: no at line {line}\n")
 }

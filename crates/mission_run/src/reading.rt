@@ -18,7 +18,7 @@ use std::alloc::Global;
 use world_run::refuse;
 
 /// Writes the line of bytes that are no mission.
-fn refuse_mission<K: Sink>(alloc: Global, out: &mut K, fault: ReadFault) -> Status
+pub(crate) fn refuse_mission<K: Sink>(alloc: Global, out: &mut K, fault: ReadFault) -> Status
     ensures { RefusesMission fault (sink_view (K.written out.old) (K.faults out.old))
         (sink_view (K.written out.new) (K.faults out.new)) result }
 {
@@ -65,7 +65,7 @@ pub fn read_mission<S: Source, K: Sink>(
 }
 
 /// The status of a text that was written.
-fn told(written: Result<(), WriteStop>) -> Status
+pub(crate) fn told(written: Result<(), WriteStop>) -> Status
     ensures { (text : List ℕ) (old new : SinkView) → Writes old new text written → Tells text old new result }
 {
     match written {

@@ -23,6 +23,8 @@ pub enum Status {
         active: ChanSet,
     },
     NoMemory,
+    /// The trace is not consistent with its mission: this line is the first that is not good, or one more than there are.
+    NotARun(u32),
 }
 
 impl Status {
@@ -39,6 +41,7 @@ impl Status {
             Status::WriteFault => 6,
             Status::TooManyDisturbed { .. } => 7,
             Status::NoMemory => 8,
+            Status::NotARun(_) => 9,
         }
     }
 }

@@ -1,15 +1,18 @@
 -- The text of a report's lines is that of its parts.
-use Rattle.std.proofs.Common.{◌≡◌, ℕ, Bool, true, false, cond, ℤ, List, [], ◌∷◌, ◌++◌, length, map, Option, None, Some, refl, sym, ap, ◌∙◌, append_assoc, append-nil}
+use Rattle.std.proofs.Common.{◌≡◌, ℕ, suc, Bool, true, false, cond, ℤ, List, [], ◌∷◌, ◌++◌, length, map, Option, None, Some, refl, sym, ap, ◌∙◌, append_assoc, append-nil}
 use Rattle.std.specs.Prelude.{flat_map}
 use Rattle.std.proofs.lemmas.List.Concat.{flat_map-append}
-use Rattle.guards_model.specs.Missions.{MissionValue}
+use Rattle.guards_model.specs.Missions.{MissionValue, ActuatorValue}
+use Rattle.guards_model.specs.Network.{Log}
+use Rattle.guards_runs.specs.Outputs.{words_after}
+use Rattle.guards_runs.specs.ActedReport.{acted_parts}
 use Rattle.guards_model.specs.Rounds.{Histories}
-use Rattle.guards_model.specs.Texts.{TextValue, Part, LineValue, TraceValue, RecordValue, StopValue, channel_line, trace_line, cycle_line, end_line, head_line, last_line, cycle_part, part_text, text_of}
+use Rattle.guards_model.specs.Texts.{out_line, TextValue, Part, LineValue, TraceValue, RecordValue, StopValue, channel_line, trace_line, cycle_line, end_line, head_line, last_line, cycle_part, part_text, text_of}
 use Rattle.guards_runs.specs.Cycles.{Past}
 use Rattle.guards_runs.specs.Report.{cycle_record, cycle_parts, latest_steps, earlier_steps}
 use Rattle.report_lines.specs.Lines.{ReportLine, channel_told, steps_told, end_told, spelling}
 use Rattle.report_lines.specs.Reports.{CycleTold, words_lines, cycle_lines, last_told, text_of_report}
-use Rattle.report_laws.specs.ToldRuns.{told_record, cycles_told, run_told, no_words}
+use Rattle.report_laws.specs.ToldRuns.{told_record, cycles_told, run_told, words_of}
 
 abbrev pub spelled : List ReportLine → TextValue
 spelled lines = flat_map spelling lines
@@ -46,16 +49,16 @@ cycle_text trace r words =
     ap (λ t. cycle_line r ++ t) inner ∙ sym outer
 
 -- the text of cycles by their parts, where no words follow
-pub cycles_text : (trace : Bool) (M : MissionValue) (histories : Histories) (past : Past) → spelled (flat_map cycle_lines (cycles_told no_words trace M histories past)) ≡ text_of (cycle_parts trace M histories past)
-cycles_text trace M histories [] = refl
-cycles_text trace M histories (e ∷ past) =
+pub cycles_text : (trace : Bool) (M : MissionValue) (F : Log) (histories : Histories) (past : Past) → spelled (flat_map cycle_lines (cycles_told (words_of None M F) trace M histories past)) ≡ text_of (cycle_parts trace M histories past)
+cycles_text trace M F histories [] = refl
+cycles_text trace M F histories (e ∷ past) =
     let earlier : Histories = earlier_steps histories in
     let r : RecordValue = cycle_record M (latest_steps histories) (length past) e in
-    let told : List CycleTold = cycles_told no_words trace M earlier past in
+    let told : List CycleTold = cycles_told (words_of None M F) trace M earlier past in
     let now : CycleTold = record { record_told = told_record trace r; words = None } in
     ap spelled (flat_map-append cycle_lines told (now ∷ []))
     ∙ flat_map-append spelling (flat_map cycle_lines told) (cycle_lines now ++ [])
-    ∙ ap (λ t. t ++ spelled (cycle_lines now ++ [])) (cycles_text trace M earlier past)
+    ∙ ap (λ t. t ++ spelled (cycle_lines now ++ [])) (cycles_text trace M F earlier past)
     ∙ ap (λ (ls : List ReportLine). text_of (cycle_parts trace M earlier past) ++ spelled ls) (append-nil (cycle_lines now))
     ∙ ap (λ t. text_of (cycle_parts trace M earlier past) ++ t) (cycle_text trace r None)
     ∙ sym (flat_map-append part_text (cycle_parts trace M earlier past) (cycle_part trace r ∷ []))
@@ -64,14 +67,34 @@ last_spelled : (cycles : ℕ) (stop : Option StopValue) → spelling (last_told 
 last_spelled cycles None = refl
 last_spelled cycles (Some s) = refl
 
--- the whole text
-pub run_text_is : (trace : Bool) (M : MissionValue) (histories : Histories) (past : Past) (stop : Option StopValue) →
-    text_of_report (run_told no_words trace M histories past stop) ≡ (head_line M.rules.channels M.cycles ++ text_of (cycle_parts trace M histories past)) ++ last_line M.cycles stop
-run_text_is trace M histories past stop =
+-- the same, where the words of an actuator follow
+pub acted_text : (trace : Bool) (M : MissionValue) (a : ActuatorValue) (F : Log) (histories : Histories) (past : Past) →
+    spelled (flat_map cycle_lines (cycles_told (words_of (Some a) M F) trace M histories past)) ≡ text_of (acted_parts trace M a F histories past)
+acted_text trace M a F histories [] = refl
+acted_text trace M a F histories (e ∷ past) =
+    let earlier : Histories = earlier_steps histories in
+    let r : RecordValue = cycle_record M (latest_steps histories) (length past) e in
+    let words : List ℤ = words_after M a F (suc (length past)) in
+    let told : List CycleTold = cycles_told (words_of (Some a) M F) trace M earlier past in
+    let now : CycleTold = record { record_told = told_record trace r; words = Some words } in
+    let before : TextValue = text_of (acted_parts trace M a F earlier past) in
+    ap spelled (flat_map-append cycle_lines told (now ∷ []))
+    ∙ flat_map-append spelling (flat_map cycle_lines told) (cycle_lines now ++ [])
+    ∙ ap (λ t. t ++ spelled (cycle_lines now ++ [])) (acted_text trace M a F earlier past)
+    ∙ ap (λ (ls : List ReportLine). before ++ spelled ls) (append-nil (cycle_lines now))
+    ∙ ap (λ t. before ++ t) (cycle_text trace r (Some words) ∙ sym (flat_map-append (λ (line : TextValue). line) (cycle_part trace r) (out_line words ∷ [])))
+    ∙ ap (λ t. before ++ t) (sym (append-nil (part_text (cycle_part trace r ++ out_line words ∷ []))))
+    ∙ sym (flat_map-append part_text (acted_parts trace M a F earlier past) ((cycle_part trace r ++ out_line words ∷ []) ∷ []))
+
+-- the whole text, where that of the cycles is known
+pub run_text_is : (words : ℕ → Option (List ℤ)) (trace : Bool) (M : MissionValue) (histories : Histories) (past : Past) (stop : Option StopValue) (cycles : TextValue) →
+    spelled (flat_map cycle_lines (cycles_told words trace M histories past)) ≡ cycles →
+    text_of_report (run_told words trace M histories past stop) ≡ (head_line M.rules.channels M.cycles ++ cycles) ++ last_line M.cycles stop
+run_text_is words trace M histories past stop cycles is =
     let head : TextValue = head_line M.rules.channels M.cycles in
-    let lines : List ReportLine = flat_map cycle_lines (cycles_told no_words trace M histories past) in
+    let lines : List ReportLine = flat_map cycle_lines (cycles_told words trace M histories past) in
     ap (λ t. head ++ t)
     (flat_map-append spelling lines (last_told M.cycles stop ∷ [])
-    ∙ ap (λ t. t ++ (spelling (last_told M.cycles stop) ++ [])) (cycles_text trace M histories past)
-    ∙ ap (λ t. text_of (cycle_parts trace M histories past) ++ t) (append-nil (spelling (last_told M.cycles stop)) ∙ last_spelled M.cycles stop))
-    ∙ sym (append_assoc head (text_of (cycle_parts trace M histories past)) (last_line M.cycles stop))
+    ∙ ap (λ t. t ++ (spelling (last_told M.cycles stop) ++ [])) is
+    ∙ ap (λ t. cycles ++ t) (append-nil (spelling (last_told M.cycles stop)) ∙ last_spelled M.cycles stop))
+    ∙ sym (append_assoc head cycles (last_line M.cycles stop))

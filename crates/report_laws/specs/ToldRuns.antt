@@ -1,6 +1,8 @@
 -- What the report of a run tells, cycle by cycle. This project's own.
-use Rattle.std.specs.Prelude.{ℕ, suc, ℤ, Bool, List, [], ◌∷◌, ◌++◌, Option, None, if◌then◌else◌}
-use Rattle.guards_model.specs.Missions.{MissionValue}
+use Rattle.std.specs.Prelude.{ℕ, suc, ℤ, Bool, List, [], ◌∷◌, ◌++◌, Option, None, Some, if◌then◌else◌}
+use Rattle.guards_model.specs.Missions.{MissionValue, ActuatorValue}
+use Rattle.guards_model.specs.Network.{Log}
+use Rattle.guards_runs.specs.Outputs.{words_after}
 use Rattle.guards_model.specs.Rounds.{Histories}
 use Rattle.guards_model.specs.Texts.{RecordValue, StopValue}
 use Rattle.guards_runs.specs.Cycles.{Past, this_cycle}
@@ -32,6 +34,7 @@ run_told words trace M histories cycles stop =
       stop = stop;
     }
 
--- no actuator
-abbrev pub no_words : ℕ → Option (List ℤ)
-no_words n = None
+-- the words of a mission's actuator after so many cycles of a log
+abbrev pub words_of : Option ActuatorValue → MissionValue → Log → ℕ → Option (List ℤ)
+words_of None M L n = None
+words_of (Some a) M L n = Some (words_after M a L n)

@@ -207,7 +207,7 @@ static UNKNOWN: Case = Case {
     },
     changes: &[],
     status: 2,
-    text: "usage: guards run [--trace] [--last K] | check | demo N\n",
+    text: "usage: guards run [--trace] [--last K] | check | demo N | audit\n",
     entries: 0,
 };
 

@@ -4,6 +4,8 @@
 #[cfg(test)]
 mod answer;
 #[cfg(test)]
+mod audits;
+#[cfg(test)]
 mod cases;
 #[cfg(test)]
 mod lasts;

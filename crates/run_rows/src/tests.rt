@@ -115,6 +115,11 @@ demo 18446744073709551616
 demo 100000000000000000000
 demo -- 1
 demo 1 1
+audit 1
+audit audit
+audit --trace
+audit --last 1
+audit --
 check --trace
 check --last 1
 run --
@@ -151,6 +156,7 @@ run -- --last 1
 run 1 --last
 --last 1 run
 --trace run
+--trace audit
 demo --last 1
 ";
 

@@ -2,7 +2,7 @@ use Rattle.std.proofs.Common.{◌≡◌, ◌∙◌, ap, ap₂, true, []}
 use Rattle.std.proofs.lemmas.Result.{IfOk-weaker}
 use Rattle.clap.specs.Words.{App, app_of, shape_of, with_subcommand}
 use Rattle.clap.specs.Simple.{app_of_fields}
-use Rattle.command_words.specs.ClapLine.{check_shape, guards_top}
+use Rattle.command_words.specs.ClapLine.{audit_shape, check_shape, guards_top}
 use Rattle.command_words.proofs.line.guards_line.Goals as goal
 
 pub returns : goal.returns
@@ -20,4 +20,6 @@ returns c =
     let first = c.in_ok-subcommand.ensures.shape c.in_ok-run.ensures.own ∙ ap₂ with_subcommand top c.in_ok-run.ensures.shape in
     let check : shape_of c.new-check.result ≡ check_shape = ap (λ (a : App). a.top) c.new-check.ensures.app in
     let second = c.in_ok-subcommand-2.ensures.shape c.new-check.ensures.local ∙ ap₂ with_subcommand first check in
-    IfOk-weaker c.subcommand-3.result _ _ (λ line added. added.shape c.in_ok-demo.ensures.own ∙ ap₂ with_subcommand second c.in_ok-demo.ensures.shape) c.subcommand-3.ensures
+    let third = c.in_ok-subcommand-3.ensures.shape c.in_ok-demo.ensures.own ∙ ap₂ with_subcommand second c.in_ok-demo.ensures.shape in
+    let audit : shape_of c.new-audit.result ≡ audit_shape = ap (λ (a : App). a.top) c.new-audit.ensures.app in
+    IfOk-weaker c.subcommand-4.result _ _ (λ line added. added.shape c.new-audit.ensures.local ∙ ap₂ with_subcommand third audit) c.subcommand-4.ensures

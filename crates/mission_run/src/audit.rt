@@ -1,0 +1,128 @@
+//! Judges the trace of a run by its mission.
+ghost use Rattle.guards_io.specs.Stream.{source_view};
+ghost use Rattle.guards_model.specs.Missions.{MissionValue};
+ghost use Rattle.ideal_run.specs.Writes.{sink_view};
+ghost use Rattle.mission_run.specs.Auditing.{AuditsBytes, CompletesAudit, Judges, JudgesInput};
+ghost use Rattle.run_audit.specs.Answers.{IsVerdict};
+ghost use Rattle.std.specs.Prelude.{List, ℕ};
+
+use crate::limit::{AUDIT_LIMIT, LIMIT};
+use crate::lines::{long_line, no_line, read_line, yes_line};
+use crate::reading::{refuse_mission, told};
+use crate::status::Status;
+use guards_io::{ReadStop, Sink, Source, read_all};
+use ideal_run::put;
+use mission_text::read;
+use mission_type::Mission;
+use native_calls::Calls;
+use recorded_run::split_run;
+use run_audit::{Verdict, audit};
+use std::alloc::Global;
+use world_run::refuse;
+
+/// Writes the line of a trace that is not consistent.
+fn say_no<K: Sink>(alloc: Global, line: u32, out: &mut K) -> Status
+    ensures { (M : MissionValue) (trace : List ℕ) → IsVerdict M trace (Verdict.No line) →
+        Judges M trace (sink_view (K.written out.old) (K.faults out.old))
+        (sink_view (K.written out.new) (K.faults out.new)) result }
+{
+    match no_line(alloc, line) {
+        Ok(text) => {
+            refuse(out, &text);
+            Status::NotARun(line)
+        }
+        Err(_) => Status::NoMemory,
+    }
+}
+
+/// Writes the line of a verdict.
+fn say<K: Sink>(alloc: Global, verdict: Verdict, out: &mut K) -> Status
+    ensures { (M : MissionValue) (trace : List ℕ) → IsVerdict M trace verdict →
+        Judges M trace (sink_view (K.written out.old) (K.faults out.old))
+        (sink_view (K.written out.new) (K.faults out.new)) result }
+{
+    match verdict {
+        Verdict::Yes => told(put(out, yes_line())),
+        Verdict::No { line } => say_no(alloc, line, out),
+    }
+}
+
+/// Judges a trace by a mission.
+fn judge<K: Sink, C: Calls>(
+    alloc: Global,
+    mission: Mission,
+    trace: &[u8],
+    out: &mut K,
+    natives: &C,
+) -> Status
+    ensures { Judges mission trace.now (sink_view (K.written out.old) (K.faults out.old))
+        (sink_view (K.written out.new) (K.faults out.new)) result }
+{
+    match audit(alloc, &mission, trace, natives) {
+        Ok(verdict) => say(alloc, verdict, out),
+        Err(_) => Status::NoMemory,
+    }
+}
+
+/// Judges the trace of an input by the mission before it.
+fn judge_input<K: Sink, C: Calls>(alloc: Global, input: &[u8], out: &mut K, natives: &C) -> Status
+    ensures { JudgesInput input.now (sink_view (K.written out.old) (K.faults out.old))
+        (sink_view (K.written out.new) (K.faults out.new)) result }
+{
+    let (mission, trace) = split_run(input);
+    if mission.len() > LIMIT {
+        refuse(out, long_line());
+        return Status::TooLong;
+    }
+    match read(alloc, mission) {
+        Ok(mission) => judge(alloc, mission, trace, out, natives),
+        Err(fault) => refuse_mission(alloc, out, fault),
+    }
+}
+
+fn audit_read<S: Source, K: Sink, C: Calls>(
+    alloc: Global,
+    src: &mut S,
+    out: &mut K,
+    natives: &C,
+) -> Status
+    ensures { AuditsBytes
+        (source_view (S.left src.old) (S.faults src.old))
+        (source_view (S.left src.new) (S.faults src.new))
+        (sink_view (K.written out.old) (K.faults out.old))
+        (sink_view (K.written out.new) (K.faults out.new)) result }
+{
+    match read_all(alloc, src, AUDIT_LIMIT) {
+        Ok(bytes) => judge_input(alloc, bytes.as_slice(), out, natives),
+        Err(ReadStop::Failed) => {
+            refuse(out, read_line());
+            Status::ReadFault
+        }
+        Err(ReadStop::TooLong) => {
+            refuse(out, long_line());
+            Status::TooLong
+        }
+        Err(ReadStop::Memory) => Status::NoMemory,
+    }
+}
+
+/// Reads a mission and the trace of its run, and writes whether the trace is consistent with the mission.
+pub fn audit_run<S: Source, K: Sink, C: Calls>(
+    alloc: Global,
+    src: &mut S,
+    out: &mut K,
+    natives: &C,
+) -> Status
+    ensures outcome { AuditsBytes
+        (source_view (S.left src.old) (S.faults src.old))
+        (source_view (S.left src.new) (S.faults src.new))
+        (sink_view (K.written out.old) (K.faults out.old))
+        (sink_view (K.written out.new) (K.faults out.new)) result }
+    ensures completes { CompletesAudit
+        (source_view (S.left src.old) (S.faults src.old))
+        (source_view (S.left src.new) (S.faults src.new))
+        (sink_view (K.written out.old) (K.faults out.old))
+        (sink_view (K.written out.new) (K.faults out.new)) result }
+{
+    audit_read(alloc, src, out, natives)
+}

@@ -1,0 +1,11 @@
+pub mod ArrayLemmas
+pub mod ChannelLemmas
+pub mod ContextSizes
+pub mod CountLemmas
+pub mod EndLemmas
+pub mod FitLemmas
+pub mod MovedLemmas
+pub mod OpenLemmas
+pub mod SetLemmas
+pub mod StandLemmas
+pub mod StepLemmas
