@@ -1,7 +1,8 @@
 """Writes the crate guards_runs_rows: worked missions with their logs and reports, as the simulator makes them, and one
 function for each, whose contract says that the definitions compute just these.
 
-    python3 tools/worked_runs.py             writes crates/guards_runs_rows, from the top of the repository
+    python3 tools/worked_runs.py             writes crates/guards_runs_rows, and runs of diagnosis_rows, from the top
+                                             of the repository
     python3 tools/worked_runs.py --print    prints the reports alone
 
 Run `rt fmt` in the crate afterwards. Nothing of the gate needs this script: what it writes is committed."""
@@ -121,6 +122,14 @@ OUTPUT_RUNS = [
     ('crash_counts', 'A channel that crashed in the cycle sends nothing to the actuator.',
      Run(count_of(cycles=2, actuator=BY_THREE),
          faults=[('damage', 2, 1, 0, 0, 100), ('crash', 2, 1, 'vote'), ('restart', 2, 3)])),
+]
+
+# runs whose literals stand in specs/ of diagnosis_rows
+DIAGNOSIS_RUNS = [
+    ('judged_twice', 'One disturbed cycle costs a channel two judgements: its word is lost, and then its vote.',
+     Run(count_of(cycles=2, threshold=131072), [lost(0, 'round1', 3), lost(0, 'vote', 3)])),
+    ('gone_in_time', 'A channel crashes after its vote, is silent in two cycles, and is removed in the second one.',
+     Run(count_of(cycles=3, threshold=131072), faults=[('crash', 4, 0, 'switch')])),
 ]
 
 # of these the text with trace lines is computed too
@@ -447,15 +456,15 @@ def answers(name, run):
     return out
 
 
-def put(path, content):
-    path = os.path.join(CRATE, path)
+def put(path, content, crate=CRATE):
+    path = os.path.join(crate, path)
     os.makedirs(os.path.dirname(path), exist_ok=True)
     with open(path, 'w') as file:
         file.write(content)
 
 
 def main():
-    for _, _, run in RUNS + OUTPUT_RUNS:
+    for _, _, run in RUNS + OUTPUT_RUNS + DIAGNOSIS_RUNS:
         run.run()
     if '--print' in sys.argv:
         for name, title, run in RUNS:
@@ -468,6 +477,8 @@ def main():
     for name, title, run in RUNS:
         put(f'specs/{module_name(name)}.antt', module(title, run, name in TRACED))
         put(f'proofs/{name}/Answers.antt', answers(name, run))
+    for name, title, run in DIAGNOSIS_RUNS:
+        put(f'specs/{module_name(name)}.antt', module(title, run, False), os.path.join('crates', 'diagnosis_rows'))
     modules = ['Worked', 'KnownFrames'] + [module_name(name) for name, _, _ in RUNS]
     put('specs/Lib.antt', ''.join(f'pub mod {module}\n' for module in modules))
     put('src/lib.rt', library())

@@ -1,0 +1,14 @@
+pub mod Senders
+pub mod Judgement
+pub mod LeftAlone
+pub mod Missing
+pub mod Silent
+pub mod Rows
+pub mod Histories
+pub mod Counts
+pub mod Disturbance
+pub mod Seldom
+pub mod Crashed
+pub mod WrongVotes
+pub mod Decided
+pub mod ActiveBefore

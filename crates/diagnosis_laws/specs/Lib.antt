@@ -1,0 +1,4 @@
+pub mod Diagnosed
+pub mod CountHistories
+pub mod WrongVotes
+pub mod PeaksDecided

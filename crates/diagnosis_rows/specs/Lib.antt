@@ -1,0 +1,2 @@
+pub mod JudgedTwice
+pub mod GoneInTime
