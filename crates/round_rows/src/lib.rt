@@ -4,6 +4,8 @@
 #[cfg(test)]
 mod chain;
 #[cfg(test)]
+mod framing;
+#[cfg(test)]
 mod order;
 #[cfg(test)]
 mod tests;

@@ -1,6 +1,7 @@
 ghost use Rattle.std.specs.Prelude.{◌<◌, All};
 
 use crate::chain::{BLOCKS, Plain, table};
+use crate::framing::taken;
 use crate::order::InOrder;
 use context_blocks::{Block, Context};
 use ctx_lock::{Gate, OpenGate};
@@ -112,5 +113,22 @@ fn rounds_without_writes_or_copies(rt: HostRuntime) -> Result<(), Fail> {
         let writes = if busy { 3 } else { 0 };
         assert!(rt; has_writes(&worked.context, writes));
     }
+    Ok(())
+}
+
+// How many copies the framer takes before they are gathered hangs on the machine; in so many rounds it takes one.
+#[test]
+fn the_framer_takes_copies_meanwhile(rt: HostRuntime) -> Result<(), Fail> {
+    let Some(table) = table(rt.alloc(), true)? else {
+        panic!(rt; "the table is good")
+    };
+    let mut took = false;
+    for _ in 0..1_000 {
+        if !took {
+            let plan = Tags::all(BLOCKS).plan(16);
+            took = taken(&rt, rt.alloc(), &table, plan) > 0;
+        }
+    }
+    assert!(rt; took);
     Ok(())
 }

@@ -61,10 +61,9 @@ impl Crew {
         self.chan
     }
 
-    /// All copies that were put into its pipe, once the feed is back. It takes no memory.
-    pub fn gather(self, feed: Feed) -> Copies
-        requires { feed_name feed ≡ self }
-        ensures { result.items ≡ sent feed }
+    /// The framer, with what it has taken.
+    pub fn into_framer(self) -> Framer
+        ensures { framer_name result ≡ self }
     {
         let Crew {
             alloc: _,
@@ -72,7 +71,15 @@ impl Crew {
             framer,
             tries: _,
         } = self;
-        gather(feed, framer)
+        framer
+    }
+
+    /// All copies that were put into its pipe, once the feed is back. It takes no memory.
+    pub fn gather(self, feed: Feed) -> Copies
+        requires { feed_name feed ≡ self }
+        ensures { result.items ≡ sent feed }
+    {
+        gather(feed, self.into_framer())
     }
 
     // Whether there is a copy to wait for.
@@ -110,9 +117,9 @@ fn try_often(mut framer: Framer, tries: usize) -> Framer
     framer
 }
 
-/// Two workers side by side make all steps that are due, and beside them a framer tries to take copies; where it is not to
-/// try, this thread makes all the steps. The value comes closed, with the framer; for want of memory the value comes back as
-/// it was.
+/// Two workers side by side make all steps that are due, and beside them a framer, which starts first, tries to take copies;
+/// where it is not to try, this thread makes all the steps. The value comes closed, with the framer; for want of memory the
+/// value comes back as it was.
 pub fn work_beside<T: Turned, G: Gate, R: Threads + Wait + Sync>(
     rt: &R,
     value: T,
@@ -132,15 +139,15 @@ pub fn work_beside<T: Turned, G: Gate, R: Threads + Wait + Sync>(
         let (task, sweep) = in_turn(rt, &shared, chan, task, sweep, gate);
         return Ok((shared.close(task, sweep), crew));
     }
-    let ((task, sweep), crew) = join(
+    let (crew, (task, sweep)) = join(
         rt,
+        || -> Crew
+            ensures { result ≡ crew }
+        { crew.try_all() },
         || -> (Pass<T>, Pass<T>)
             requires { IsPassOf shared task × IsPassOf shared sweep }
             ensures { IsWorkedOut T.due task result.0 × IsWorkedOut T.due sweep result.1 }
         { pair(rt, &shared, chan, task, sweep, gate) },
-        || -> Crew
-            ensures { result ≡ crew }
-        { crew.try_all() },
     );
     Ok((shared.close(task, sweep), crew))
 }
