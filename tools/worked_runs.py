@@ -1,8 +1,7 @@
-"""Writes the crate guards_runs_rows: worked missions with their logs and reports, as the simulator makes them, and one
+"""Writes the worked runs of the crate model_rows: missions with their logs and reports, as the simulator makes them, and one
 function for each, whose contract says that the definitions compute just these.
 
-    python3 tools/worked_runs.py             writes crates/guards_runs_rows, and runs of diagnosis_rows, from the top
-                                             of the repository
+    python3 tools/worked_runs.py             writes crates/model_rows, and runs of law_rows, from the top of the repository
     python3 tools/worked_runs.py --print    prints the reports alone
 
 Run `rt fmt` in the crate afterwards. Nothing of the gate needs this script: what it writes is committed."""
@@ -13,7 +12,7 @@ import sys
 
 from simulator import Run, SLOTS, encoded, unmasked
 
-CRATE = os.path.join('crates', 'guards_runs_rows')
+CRATE = os.path.join('crates', 'model_rows')
 
 ADD = ('+', ('b', 0, 0), ('in', 0))
 COUNT = ('+', ('b', 0, 0), 1)
@@ -108,7 +107,7 @@ RUNS = [
 ]
 BY_THREE = dict(steps=[3], start=[0])
 
-# runs of a mission with an actuator, whose literals stand in output_rows: --print prints their logs too
+# runs of a mission with an actuator, whose literals stand in specs/Outputs of model_rows: --print prints their logs too
 OUTPUT_RUNS = [
     ('moves_by_steps', 'The word moves by 3 towards 5, and then by 3 towards 10.', Run(sum_of(actuator=BY_THREE))),
     ('loss_is_borne', 'So it does where one of four output frames is lost.',
@@ -124,7 +123,7 @@ OUTPUT_RUNS = [
          faults=[('damage', 2, 1, 0, 0, 100), ('crash', 2, 1, 'vote'), ('restart', 2, 3)])),
 ]
 
-# runs whose literals stand in specs/ of diagnosis_rows
+# runs whose literals stand in specs/ of law_rows
 DIAGNOSIS_RUNS = [
     ('judged_twice', 'One disturbed cycle costs a channel two judgements: its word is lost, and then its vote.',
      Run(count_of(cycles=2, threshold=131072), [lost(0, 'round1', 3), lost(0, 'vote', 3)])),
@@ -267,7 +266,7 @@ Rattle.guards_model.specs.BusRules: lose forge
 Rattle.guards_model.specs.Missions: MissionValue
 Rattle.guards_model.specs.Network: Log
 Rattle.guards_model.specs.Rounds: Histories
-Rattle.guards_runs_rows.specs.Worked: hex carried lost forged WorkedRun WorkedJoin"""
+Rattle.model_rows.specs.Worked: hex carried lost forged WorkedRun WorkedJoin"""
 
 
 def imports(body):
@@ -386,18 +385,21 @@ def clauses(name, run):
 
 
 LIB_USES = """pub mod frames;
+pub mod held_nodes;
+pub mod moved_outputs;
+pub mod verdicts;
 
 ghost use Rattle.std.specs.Prelude.{◌≡◌, true, false, Some, None};
 ghost use Rattle.guards_model.specs.declared.Slot.TheVariants.{Tasks, Vote};
 ghost use Rattle.guards_model.specs.Modes.{down, joining};
 ghost use Rattle.guards_runs.specs.Cycles.{mode_after, is_damaged, held_start, joins_since};
 ghost use Rattle.guards_runs.specs.Report.{traced};
-ghost use Rattle.guards_runs_rows.specs.Worked.{IsWorked, IsWorkedStop, Joins, IsNotWhole, past_of, cycle_of, all_of};
+ghost use Rattle.model_rows.specs.Worked.{IsWorked, IsWorkedStop, Joins, IsNotWhole, past_of, cycle_of, all_of};
 """
 
 
 def library():
-    uses = [f'ghost use Rattle.guards_runs_rows.specs.{module_name(name)} as {name}_row;' for name, _, _ in RUNS]
+    uses = [f'ghost use Rattle.model_rows.specs.{module_name(name)} as {name}_row;' for name, _, _ in RUNS]
     out = LIB_HEAD + LIB_USES + '\n'.join(uses) + '\n'
     for name, title, run in RUNS:
         found = clauses(name, run)
@@ -414,8 +416,8 @@ def module_name(name):
 ANSWERS = """use Rattle.std.proofs.Common.{{refl}}
 use Rattle.guards_runs.proofs.OnLiterals.{{run_on_literals}}
 use Rattle.guards_runs.proofs.DueTest.{{{test}}}
-{uses}use Rattle.guards_runs_rows.specs.{module} as row
-use Rattle.guards_runs_rows.proofs.{name}.Goals as goal
+{uses}use Rattle.model_rows.specs.{module} as row
+use Rattle.model_rows.proofs.{name}.Goals as goal
 """
 
 
@@ -478,8 +480,8 @@ def main():
         put(f'specs/{module_name(name)}.antt', module(title, run, name in TRACED))
         put(f'proofs/{name}/Answers.antt', answers(name, run))
     for name, title, run in DIAGNOSIS_RUNS:
-        put(f'specs/{module_name(name)}.antt', module(title, run, False), os.path.join('crates', 'diagnosis_rows'))
-    modules = ['Worked', 'KnownFrames'] + [module_name(name) for name, _, _ in RUNS]
+        put(f'specs/{module_name(name)}.antt', module(title, run, False), os.path.join('crates', 'law_rows'))
+    modules = ['Worked', 'KnownFrames'] + [module_name(name) for name, _, _ in RUNS] + ['Nodes', 'Outputs', 'Changed']
     put('specs/Lib.antt', ''.join(f'pub mod {module}\n' for module in modules))
     put('src/lib.rt', library())
 

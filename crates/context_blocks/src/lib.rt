@@ -6,6 +6,3 @@ mod context;
 
 pub use block_set::BlockSet;
 pub use context::{Block, Context};
-
-#[cfg(test)]
-mod tests;

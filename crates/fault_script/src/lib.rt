@@ -9,6 +9,3 @@ mod script;
 pub use disturbance::Disturbance;
 pub use ledger::Ledger;
 pub use script::{Fault, Faults, Script, ScriptFault};
-
-#[cfg(test)]
-mod tests;

@@ -5,8 +5,6 @@
 mod ends;
 mod feed;
 mod framer;
-#[cfg(test)]
-mod tests;
 
 pub use ends::{gather, pipe};
 pub use feed::{Feed, MOST_COPIES, PipeName, PlanLong};

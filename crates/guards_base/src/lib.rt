@@ -20,6 +20,3 @@ pub use rules::Rules;
 pub use settled::Settled;
 pub use text::Text;
 pub use word::{Ballot, SourceWord};
-
-#[cfg(test)]
-mod tests;

@@ -11,6 +11,3 @@ pub use bus::{Act, Bus, Delivery, Entry, Rule};
 pub use memory::{Acts, MemBus};
 pub use script::ScriptBus;
 pub use switchboard::Switchboard;
-
-#[cfg(test)]
-mod tests;

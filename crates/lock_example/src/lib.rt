@@ -3,8 +3,6 @@
 
 mod lent;
 mod score;
-#[cfg(test)]
-mod tests;
 
 pub use lent::{Concert, Listener, perform};
 pub use score::{Score, Trail};

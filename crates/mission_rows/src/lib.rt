@@ -1,5 +1,5 @@
-//! Documents of missions, as tests: every field missing, of another type, too small and too large, and which of two faults is
-//! answered.
+//! Documents of missions and of fault entries, as tests: every field missing, of another type, too small and too large, and which
+//! of two faults is answered; and demo missions against a plain simulation of their draws.
 #![tactic(auto)]
 
 #[cfg(test)]
@@ -9,7 +9,11 @@ mod answers;
 #[cfg(test)]
 mod core_rows;
 #[cfg(test)]
+mod demos;
+#[cfg(test)]
 mod entry_rows;
+#[cfg(test)]
+mod fault_entries;
 #[cfg(test)]
 mod length_rows;
 #[cfg(test)]

@@ -16,6 +16,3 @@ pub trait Calls {
     fn call(&self, code: Code, a: i64, b: i64, c: i64) -> i64
         ensures { result ≡ native code a b c };
 }
-
-#[cfg(test)]
-mod tests;

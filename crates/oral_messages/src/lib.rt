@@ -19,9 +19,6 @@ pub use place::rank;
 pub use tree::Tree;
 pub use words::Path;
 
-#[cfg(test)]
-mod tests;
-
 /// The ranks of all paths of one to three labels, in ascending order of the paths, are 0, 1, 2 and so on.
 pub fn ranks_are_places()
     ensures ranks { (active : ChannelSet) (k : ℕ) → IsTrue (is_set active) → k ≤ 2 → map (rank active) (paths active (suc k)) ≡ numbers_below (length (paths active (suc k))) }

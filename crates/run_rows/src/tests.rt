@@ -16,32 +16,66 @@ fn wrong_over<R: Threads + Wait + Sync>(
     rt: &R,
     alloc: Global,
     row: &Row,
+    words: &str,
     bus: &mut ScriptBus,
 ) -> Result<Option<&'static str>, AllocError> {
     let mission = row.mission(alloc)?;
-    let ended = call_over(rt, alloc, &smooth("run", &mission), bus)?;
+    let ended = call_over(rt, alloc, &smooth(words, &mission), bus)?;
     mistake(alloc, row, &mission, &ended, bus.log())
 }
 
-// What is not as a row says.
+// What is not as a row says, where the call has these words.
 fn wrong<R: Threads + Wait + Sync>(
     rt: &R,
     alloc: Global,
     row: &Row,
+    words: &str,
 ) -> Result<Option<&'static str>, AllocError> {
     let mut bus = ScriptBus::empty(alloc);
-    wrong_over(rt, alloc, row, &mut bus)
+    wrong_over(rt, alloc, row, words, &mut bus)
+}
+
+// Appends what is not as a row says, behind its name.
+fn push_wrong(
+    alloc: Global,
+    others: &mut String,
+    name: &str,
+    what: Option<&'static str>,
+) -> Result<(), AllocError> {
+    match what {
+        None => Ok(()),
+        Some(what) => others.push_str(&format!(in alloc; "; {name}: {what}")?),
+    }
+}
+
+// How many rows a table has, and each of at most so many cycles that does not come out as it says.
+fn ran<R: Threads + Wait + Sync>(
+    rt: &R,
+    alloc: Global,
+    rows: &str,
+    words: &str,
+    most: u32,
+) -> Result<String, AllocError> {
+    let mut others = String::new(alloc);
+    for text in rows.split('§') {
+        let row = Row::of(text);
+        if row.done <= most {
+            let what = wrong(rt, alloc, &row, words)?;
+            push_wrong(alloc, &mut others, row.name, what)?;
+        }
+    }
+    format!(in alloc; "{} rows{others}", rows.split('§').count())
 }
 
 #[test]
 fn the_program_runs_the_worked_missions(rt: HostRuntime) -> Result<(), Fail> {
-    let rows = voting_rows::rows()
-        .iter()
-        .chain(restoring_rows::rows())
-        .chain(computing_rows::rows());
-    for row in rows {
-        assert_eq!(rt; wrong(&rt, rt.alloc(), row)?, None, "{}", row.name);
-    }
+    let alloc = rt.alloc();
+    let told = ran(&rt, alloc, voting_rows::ROWS, "run", 100)?;
+    assert_eq!(rt; told.as_str(), "14 rows");
+    let told = ran(&rt, alloc, restoring_rows::ROWS, "run", 100)?;
+    assert_eq!(rt; told.as_str(), "11 rows");
+    let told = ran(&rt, alloc, computing_rows::ROWS, "run", 100)?;
+    assert_eq!(rt; told.as_str(), "3 rows");
     Ok(())
 }
 
@@ -188,21 +222,8 @@ fn sources_and_sinks_may_fail(rt: HostRuntime) -> Result<(), Fail> {
 // Also those that stop.
 #[test]
 fn few_cycles_are_all_told_as_the_last(rt: HostRuntime) -> Result<(), Fail> {
-    let alloc = rt.alloc();
-    for row in voting_rows::rows() {
-        if row.done > 5 {
-            continue;
-        }
-        let mission = row.mission(alloc)?;
-        let mut bus = ScriptBus::empty(alloc);
-        let ended = call_over(&rt, alloc, &smooth("run --last 5", &mission), &mut bus)?;
-        assert_eq!(rt;
-            mistake(alloc, row, &mission, &ended, bus.log())?,
-            None,
-            "{}",
-            row.name
-        );
-    }
+    let told = ran(&rt, rt.alloc(), voting_rows::ROWS, "run --last 5", 5)?;
+    assert_eq!(rt; told.as_str(), "14 rows");
     Ok(())
 }
 

@@ -9,6 +9,3 @@ mod sensors;
 
 pub use ballots::{accusations, vote};
 pub use sensors::consolidate;
-
-#[cfg(test)]
-mod tests;

@@ -1,93 +1,19 @@
 //! Missions in which all channels work on and compute.
-use crate::missions::{FILTER, GATE, SEVEN};
-use crate::rows::{Row, Told};
 
-const FILTERED: [(&str, &str); 9] = [
-    ("80", "20,5"),
-    ("120", "40,10"),
-    ("-40", "20,15"),
-    ("80", "35,20"),
-    ("120", "51,25"),
-    ("-40", "29,29"),
-    ("80", "41,34"),
-    ("120", "55,39"),
-    ("-40", "32,34"),
-];
-
-const OPENED: [(&str, &str); 24] = [
-    ("1,1", "1,0"),
-    ("0,1", "2,0"),
-    ("0,0", "3,0"),
-    ("1,1", "4,1"),
-    ("0,1", "5,1"),
-    ("0,0", "6,1"),
-    ("1,1", "7,1"),
-    ("0,1", "0,1"),
-    ("0,0", "0,1"),
-    ("1,1", "1,1"),
-    ("0,1", "2,1"),
-    ("0,0", "3,1"),
-    ("1,1", "4,1"),
-    ("0,1", "5,1"),
-    ("0,0", "6,1"),
-    ("1,1", "7,1"),
-    ("0,1", "0,1"),
-    ("0,0", "0,1"),
-    ("1,1", "1,1"),
-    ("0,1", "2,1"),
-    ("0,0", "3,1"),
-    ("1,1", "4,2"),
-    ("0,1", "5,2"),
-    ("0,0", "6,2"),
-];
-
-const COMPUTED: [(&str, &str); 10] = [
-    ("3,30,300,3000", "3,30,-300,0,0,0,0,0"),
-    ("7,3,9,1", "10,33,-309,1,330,-28,1,0"),
-    ("3,30,300,3000", "13,63,-609,6001,330,-28,1,0"),
-    ("7,3,9,1", "20,66,-618,6004,1320,-29,5,-330"),
-    ("3,30,300,3000", "23,96,-918,18004,1320,-29,5,-330"),
-    ("7,3,9,1", "30,99,-927,18009,2970,-29,5,-1320"),
-    ("3,30,300,3000", "33,129,-1227,36009,2970,-29,5,-1320"),
-    ("7,3,9,1", "40,132,-1236,36016,5280,-30,1,-2970"),
-    ("3,30,300,3000", "43,162,-1536,60016,5280,-30,1,-2970"),
-    ("7,3,9,1", "50,165,-1545,60025,8250,-30,0,-5280"),
-];
-
-static ROWS: [Row; 3] = [
-    Row {
-        name: "a filter follows its sensors",
-        base: FILTER,
-        changes: &[],
-        faults: &[],
-        done: 9,
-        carried: 360,
-        told: Told::Steady(4, &FILTERED),
-        votes: &[],
-    },
-    Row {
-        name: "a gate opens and shuts",
-        base: GATE,
-        changes: &[],
-        faults: &[],
-        done: 24,
-        carried: 1560,
-        told: Told::Steady(5, &OPENED),
-        votes: &[],
-    },
-    Row {
-        name: "seven channels compute eight outputs",
-        base: SEVEN,
-        changes: &[],
-        faults: &[],
-        done: 10,
-        carried: 1750,
-        told: Told::Steady(7, &COMPUTED),
-        votes: &[],
-    },
-];
-
-/// The missions in which channels compute.
-pub fn rows() -> &'static [Row] {
-    &ROWS
-}
+/// The rows, with § between them.
+pub const ROWS: &str = "a filter follows its sensors
+base FILTER
+done 9
+carried 360
+part filtered
+§a gate opens and shuts
+base GATE
+done 24
+carried 1560
+part opened
+§seven channels compute eight outputs
+base SEVEN
+done 10
+carried 1750
+part computed
+";

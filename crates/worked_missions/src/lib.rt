@@ -3,6 +3,7 @@
 
 pub mod computing_rows;
 mod missions;
+mod parts;
 pub mod restoring_rows;
 mod rows;
 mod texts;
@@ -10,6 +11,5 @@ mod votes;
 pub mod voting_rows;
 
 pub use missions::{COUNT, SEVEN, SUM};
-pub use rows::{Row, Told};
+pub use rows::Row;
 pub use texts::{changed, parted, unfolded};
-pub use votes::VoteFrame;

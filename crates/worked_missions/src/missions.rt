@@ -103,7 +103,3 @@ writes = [{ block = 0, w0 = \"b0.0 + in0\", w1 = \"b0.1 + in1\", w2 = \"b0.2 - i
 name = \"products\"
 writes = [{ block = 1, w0 = \"b0.0 * b0.1\", w1 = \"b0.2 / (b0.0 + 1)\", w2 = \"b0.3 % 7\", w3 = \"-b1.0\" }]
 ";
-
-/// Channel 4 crashes in the first cycle and restarts in the next.
-pub const CRASH_AND_RETURN: &str = "{ kind = 'crash', cycle = 0, slot = 'request', channel = 4 },
-{ kind = 'restart', cycle = 1, channel = 4 },";

@@ -1,15 +1,6 @@
 //! Texts in which like lines stand once, and the lines of a report.
 use std::alloc::{AllocError, Global};
 
-/// The pieces, one after the other.
-pub fn joined(alloc: Global, pieces: &[&str]) -> Result<String, AllocError> {
-    let mut text = String::new(alloc);
-    for piece in pieces {
-        text.push_str(piece)?;
-    }
-    Ok(text)
-}
-
 /// The text in which each first text of a change has given way to the second.
 pub fn changed(alloc: Global, base: &str, changes: &[(&str, &str)]) -> Result<String, AllocError> {
     let mut text = String::from_str(alloc, base)?;
@@ -73,35 +64,4 @@ pub fn parted(alloc: Global, told: &str) -> Result<(String, String), AllocError>
         }
     }
     Ok((text, rounds))
-}
-
-// The numbers of so many channels, or a zero for each, with commas between them.
-fn listed(alloc: Global, channels: u8, is_zeros: bool) -> Result<String, AllocError> {
-    let mut list = String::new(alloc);
-    for channel in 0..channels {
-        let comma = if channel == 0 { "" } else { "," };
-        let number = if is_zeros { 0 } else { channel };
-        list.push_str(&format!(in alloc; "{comma}{number}")?)?;
-    }
-    Ok(list)
-}
-
-/// The lines of cycles in which all channels work on, folded. Each cycle is told by its input words and its votes.
-pub fn steady_lines(
-    alloc: Global,
-    channels: u8,
-    cycles: &[(&str, &str)],
-) -> Result<String, AllocError> {
-    let all = listed(alloc, channels, false)?;
-    let counts = listed(alloc, channels, true)?;
-    let mut text = String::new(alloc);
-    for (cycle, (inputs, votes)) in cycles.iter().enumerate() {
-        text.push_str(&format!(in alloc;
-            "cycle {cycle} active {all} transfer -
-ch {all} in {inputs} vote {votes} judged - alpha {counts}
-end removed - joined - remaining -
-"
-        )?)?;
-    }
-    Ok(text)
 }

@@ -3,12 +3,40 @@ use guards_base::Chan;
 use guards_model::Slot;
 use icn_bus::Entry;
 
-/// A vote frame with one word. Cycle and word are below 256.
-pub struct VoteFrame {
-    pub version: u8,
-    pub from: u8,
-    pub cycle: u8,
-    pub word: u8,
+// A vote frame with one word. Cycle and word are below 256.
+#[derive(Clone, Copy)]
+struct VoteFrame {
+    version: u8,
+    from: u8,
+    cycle: u8,
+    word: u8,
+}
+
+// The vote frame of four numbers: its version, its sender, its cycle and its word.
+fn vote_of(text: &str) -> VoteFrame {
+    let mut fields = text.split(' ');
+    let version = fields
+        .next()
+        .and_then(|field| field.parse::<u8>().ok())
+        .unwrap_or(0);
+    let from = fields
+        .next()
+        .and_then(|field| field.parse::<u8>().ok())
+        .unwrap_or(0);
+    let cycle = fields
+        .next()
+        .and_then(|field| field.parse::<u8>().ok())
+        .unwrap_or(0);
+    let word = fields
+        .next()
+        .and_then(|field| field.parse::<u8>().ok())
+        .unwrap_or(0);
+    VoteFrame {
+        version,
+        from,
+        cycle,
+        word,
+    }
 }
 
 // The bytes of a vote frame.
@@ -30,8 +58,8 @@ fn is_vote_of(entry: &Entry, vote: &VoteFrame) -> bool {
         && Some(entry.from) == Chan::new(vote.from)
 }
 
-/// Whether the channel voted in that cycle, and only so.
-pub fn is_sent(log: &[Entry], vote: &VoteFrame) -> bool {
+// Whether the channel voted in that cycle, and only so.
+fn is_sent(log: &[Entry], vote: &VoteFrame) -> bool {
     let bytes = bytes_of(vote);
     let mut is_found = false;
     for entry in log {
@@ -43,4 +71,9 @@ pub fn is_sent(log: &[Entry], vote: &VoteFrame) -> bool {
         }
     }
     is_found
+}
+
+/// Whether the vote frame of these four numbers was sent, and no other vote of its channel in its cycle.
+pub fn is_told_sent(log: &[Entry], vote: &str) -> bool {
+    is_sent(log, &vote_of(vote))
 }

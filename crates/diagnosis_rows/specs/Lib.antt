@@ -1,2 +1,0 @@
-pub mod JudgedTwice
-pub mod GoneInTime

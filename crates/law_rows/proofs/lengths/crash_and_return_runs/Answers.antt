@@ -1,0 +1,17 @@
+use Rattle.std.proofs.Common.{refl, arith}
+use Rattle.guards_runs.proofs.OnLiterals.{run_on_literals}
+use Rattle.model_rows.specs.Restored as row
+use Rattle.transfer_laws.proofs.Kept.{had_since}
+use Rattle.law_rows.proofs.lengths.crash_and_return_runs.Goals as goal
+
+pub returns-clause-starts : goal.returns-clause-starts
+unfolding run_on_literals
+returns-clause-starts c = refl
+
+pub returns-clause-kept : goal.returns-clause-kept
+unfolding run_on_literals
+returns-clause-kept c = (had_since row.mission row.log 4 3 5 (omega arith) refl).kept
+
+pub returns-clause-joined : goal.returns-clause-joined
+unfolding run_on_literals
+returns-clause-joined c = refl

@@ -1,0 +1,3 @@
+pub mod JudgedTwice
+pub mod GoneInTime
+pub mod Missions

@@ -1,0 +1,16 @@
+use Rattle.std.proofs.Common.{refl}
+use Rattle.guards_runs.proofs.OnLiterals.{run_on_literals}
+use Rattle.guards_runs.specs.ActedReport.{whole_report}
+use Rattle.model_rows.proofs.moved_outputs.loss_stops_three.Goals as goal
+
+pub returns-clause-text : goal.returns-clause-text
+unfolding run_on_literals whole_report
+returns-clause-text c = refl
+
+pub returns-clause-stop : goal.returns-clause-stop
+unfolding run_on_literals
+returns-clause-stop c = refl
+
+pub returns-clause-delivered : goal.returns-clause-delivered
+unfolding run_on_literals
+returns-clause-delivered c = refl

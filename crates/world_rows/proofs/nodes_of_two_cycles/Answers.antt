@@ -1,7 +1,0 @@
-use Rattle.std.proofs.Common.{refl}
-use Rattle.guards_runs.proofs.OnLiterals.{run_on_literals}
-use Rattle.world_rows.proofs.nodes_of_two_cycles.Goals as goal
-
-pub returns : goal.returns
-unfolding run_on_literals
-returns c = refl
