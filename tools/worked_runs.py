@@ -129,6 +129,9 @@ DIAGNOSIS_RUNS = [
      Run(count_of(cycles=2, threshold=131072), [lost(0, 'round1', 3), lost(0, 'vote', 3)])),
     ('gone_in_time', 'A channel crashes after its vote, is silent in two cycles, and is removed in the second one.',
      Run(count_of(cycles=3, threshold=131072), faults=[('crash', 4, 0, 'switch')])),
+    ('too_few_accusers', 'A lost vote is not judged: of those who found it one is removed, one is lost, and a new channel is silent.',
+     Run(count_of(blocks=2, sweep=1, cycles=4, threshold=65536),
+         [lost(1, 'vote', 3), lost(2, 'vote', 1), lost(3, 'round1', 2)], returns(4))),
 ]
 
 # of these the text with trace lines is computed too

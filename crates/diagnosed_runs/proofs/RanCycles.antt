@@ -22,6 +22,7 @@ use Rattle.diagnosis_laws.proofs.Silent.{run_finds, run_removes}
 use Rattle.diagnosis_laws.proofs.Rows.{raises_judged, removes_judged}
 use Rattle.diagnosis_laws.proofs.Counts.{run_counts}
 use Rattle.diagnosis_laws.proofs.Seldom.{run_keeps_seldom}
+use Rattle.diagnosis_laws.proofs.LeastPeriods.{run_keeps_from_least}
 use Rattle.transfer_laws.proofs.Told.{each_takes}
 use Rattle.diagnosed_runs.specs.RightDiagnosis.{DiagnosesRightly}
 
@@ -82,6 +83,7 @@ diagnosed M L n mission early run =
       removed = removes_judged M L mission n;
       counts = run_counts M L mission n;
       seldom = run_keeps_seldom M L mission n;
+      least = run_keeps_from_least M L mission n;
       transfers = each_takes M L mission n early;
     }
 

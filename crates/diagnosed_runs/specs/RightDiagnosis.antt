@@ -4,6 +4,7 @@ use Rattle.guards_runs.specs.Cycles.{Past}
 use Rattle.guards_runs.specs.Promises.{EachCycle}
 use Rattle.diagnosis_laws.specs.Diagnosed.{LeavesAlone, SparesSpotless, CostsTwo, RemovesForCause, FindsSilent, RemovesSilent, RaisesJudged, RemovesJudged}
 use Rattle.diagnosis_laws.specs.CountHistories.{CountsJudgements, KeepsSeldomJudged}
+use Rattle.diagnosis_laws.specs.LeastPeriods.{KeepsFromLeastPeriod}
 use Rattle.transfer_laws.specs.Lengths.{TakeLength}
 
 pub record DiagnosesRightly (M : MissionValue) (past : Past) : Type 0 where
@@ -21,5 +22,6 @@ pub record DiagnosesRightly (M : MissionValue) (past : Past) : Type 0 where
   -- a count is that of the judgements, and one that is judged seldom stays
   pub counts : EachCycle (CountsJudgements M) past
   pub seldom : EachCycle (KeepsSeldomJudged M) past
+  pub least : EachCycle (KeepsFromLeastPeriod M) past
   -- a transfer takes its length
   pub transfers : EachCycle (TakeLength M) past

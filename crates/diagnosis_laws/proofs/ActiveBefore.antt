@@ -1,5 +1,5 @@
 -- Who is active in a cycle and did not just join was active before.
-use Rattle.std.proofs.Common.{◌≡◌, ◌<◌, Bool, true, false, not, ◌&&◌, ◌||◌, ◌∷◌, inl, inr, sym, ◌∙◌}
+use Rattle.std.proofs.Common.{◌≡◌, ◌<◌, true, false, not, ◌||◌, ◌∷◌, inl, inr, sym, ◌∙◌}
 use Rattle.std.proofs.lemmas.Bool.{or_cases}
 use Rattle.guards_model.specs.Channels.{Channel, has, without}
 use Rattle.guards_model.specs.Missions.{MissionValue}

@@ -12,3 +12,6 @@ pub mod Crashed
 pub mod WrongVotes
 pub mod Decided
 pub mod ActiveBefore
+pub mod LeastPeriods
+pub mod FewJoin
+pub mod DamagedVotes

@@ -1,15 +1,12 @@
 -- In an exchange the word of a source that no other member holds is missing for every member.
-use Rattle.std.proofs.Common.{◌≡◌, ℕ, zero, suc, ◌+◌, ◌*◌, ◌<◌, ◌≤◌, ◌==◌, Bool, true, false, cond, not, ◌||◌, List, [], ◌∷◌, length, Option, None, refl, sym, ap, ◌∙◌, arith}
-use Rattle.std.specs.Prelude.{count_by, reverse}
-use Rattle.std.specs.List.{list_all}
+use Rattle.std.proofs.Common.{◌≡◌, ℕ, zero, suc, ◌≤◌, ◌==◌, Bool, true, false, not, ◌||◌, List, [], ◌∷◌, None, refl, sym, ap, ◌∙◌, arith}
+use Rattle.std.specs.Prelude.{count_by}
 use Rattle.std.proofs.lemmas.Bool.{eqb-true}
-use Rattle.guards_model.specs.Channels.{Channel, ChannelSet, has, without, tolerated_faults}
-use Rattle.guards_model.specs.Frames.{SourceValue, is_distinct}
-use Rattle.guards_model.specs.OralMessages.{PathValue, resolved_value, word_for}
-use Rattle.guards_model.specs.Exchanges.{ExchangeMembers, holds, resolved, IsPath, IsTold}
+use Rattle.guards_model.specs.Channels.{Channel, has, without, tolerated_faults}
+use Rattle.guards_model.specs.Exchanges.{ExchangeMembers, holds, resolved, IsTold}
 use Rattle.guards_model.proofs.Tables.{has-filter}
-use Rattle.guards_model.proofs.Counting.{count-all, count-split, count-cons, one_if_true}
-use Rattle.guards_model.proofs.BoolTests.{both, and_true, no_first, not_true}
+use Rattle.guards_model.proofs.Counting.{count-cons, one_if_true}
+use Rattle.guards_model.proofs.BoolTests.{both, no_first, not_true}
 use Rattle.guards_model.proofs.OralAgreement.{settled_by, longer, member, few_left, alone, value, value_told}
 
 counted_by : (P : ℕ → Bool) (x q : ℕ) (xs : List ℕ) (b : Bool) → (x == q) ≡ b → (b || has xs q) ≡ true → P q ≡ true → (has xs q ≡ true → 1 ≤ count_by P xs) → 1 ≤ count_by P (x ∷ xs)

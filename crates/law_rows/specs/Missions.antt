@@ -40,3 +40,14 @@ four_writes =
       script = crash 4 0 Request ∷ restart 4 1 ∷ [];
       actuator = None;
     }
+
+-- Four blocks in two rows, of which one writes three and one two; a plan copies one, and a final frame has two.
+abbrev pub late_fit : MissionValue
+late_fit =
+    record four_writes {
+      rules = record four_writes.rules { blocks = 4; sweep = 1 };
+      initial = zeroed 4;
+      table = (record { name = codes "three"; writes = map counts_in (0 ∷ 1 ∷ 2 ∷ []) } ∷ [])
+          ∷ (record { name = codes "two"; writes = map counts_in (0 ∷ 1 ∷ []) } ∷ [])
+          ∷ [];
+    }

@@ -21,3 +21,7 @@ returns-clause-not_before c = refl
 pub returns-clause-judged : goal.returns-clause-judged
 unfolding run_on_literals
 returns-clause-judged c = refl
+
+pub returns-clause-found : goal.returns-clause-found
+unfolding run_on_literals
+returns-clause-found c = refl

@@ -3,6 +3,7 @@ use Rattle.guards_model.proofs.OnLiterals.{model_on_literals}
 use Rattle.guards_model.specs.Tags.{tags_of, tags_noted, tags_closed, plan_by_tags}
 use Rattle.transfer_laws.specs.Lengths.{counted_length, GoesRound}
 use Rattle.transfer_laws.proofs.Counted.{never_fits, has_no_length}
+use Rattle.transfer_laws.proofs.Endless.{never_if_round}
 use Rattle.law_rows.specs.Missions.{four_writes}
 use Rattle.law_rows.proofs.lengths.four_writes_never_end.Goals as goal
 
@@ -25,3 +26,6 @@ returns-clause-never c n = never_fits four_writes 0 3 4 round n
 
 pub returns-clause-length : goal.returns-clause-length
 returns-clause-length c = has_no_length four_writes 0 3 4 round
+
+pub returns-clause-decided : goal.returns-clause-decided
+returns-clause-decided c = never_if_round four_writes 0 3 4 round
