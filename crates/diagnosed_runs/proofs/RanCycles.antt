@@ -1,11 +1,11 @@
 -- Cycles that ran are cycles of a run in the sense of the main theorem.
-use Rattle.std.proofs.Common.{◌≡◌, ℕ, ◌≤◌, Option, Some, None, refl, sym, subst, arith}
+use Rattle.std.proofs.Common.{ℕ, zero, suc, ◌<◌, ◌≤◌, Option, Some, None, refl, sym, subst, arith}
 use Rattle.std.specs.List.{AllZip}
 use Rattle.guards_model.specs.Missions.{MissionValue, ActuatorValue, IsMission}
 use Rattle.guards_model.specs.Network.{Log, without_outputs}
 use Rattle.guards_model.specs.Rounds.{Histories}
 use Rattle.guards_model.specs.Texts.{StopValue}
-use Rattle.guards_runs.specs.Cycles.{cycles_before, cycle_at}
+use Rattle.guards_runs.specs.Cycles.{cycles_before, cycle_at, next_cycle}
 use Rattle.guards_runs.specs.Due.{IsDue, carries_through}
 use Rattle.guards_runs.specs.Faultless.{HasDue}
 use Rattle.guards_runs.specs.Promises.{HasRun}
@@ -16,15 +16,16 @@ use Rattle.acted_runs.specs.Acting.{ActedToStop}
 use Rattle.acted_runs.specs.Driving.{CyclesRan, RunStopped, facts_log, cycles_told}
 use Rattle.acted_scripts.specs.ActedScripts.{StopsActing}
 use Rattle.acted_scripts.proofs.ActedLogs.{acted_by, acted_due, nine_unstopped, stop_due}
-use Rattle.diagnosis_laws.proofs.LeftAlone.{run_leaves_alone, run_spares}
+use Rattle.diagnosis_laws.proofs.LeftAlone.{each_of, run_leaves_alone, run_spares}
 use Rattle.diagnosis_laws.proofs.Disturbance.{run_costs, run_causes}
 use Rattle.diagnosis_laws.proofs.Silent.{run_finds, run_removes}
 use Rattle.diagnosis_laws.proofs.Rows.{raises_judged, removes_judged}
+use Rattle.diagnosis_laws.proofs.WrongVotes.{judged_exactly, damaged_is_judged}
 use Rattle.diagnosis_laws.proofs.Counts.{run_counts}
 use Rattle.diagnosis_laws.proofs.Seldom.{run_keeps_seldom}
 use Rattle.diagnosis_laws.proofs.LeastPeriods.{run_keeps_from_least}
 use Rattle.transfer_laws.proofs.Told.{each_takes}
-use Rattle.diagnosed_runs.specs.RightDiagnosis.{DiagnosesRightly}
+use Rattle.diagnosed_runs.specs.RightDiagnosis.{JudgesVotes, DiagnosesRightly}
 
 pub ran_is_run : (o : Option ActuatorValue) (M : MissionValue) (n : ℕ) (F : Log) (histories : Histories) → CyclesRan o M n F histories → HasRun M (facts_log o F) n
 ran_is_run None M n F histories ran = whole_run M F n (record { due = due_by M histories (cycles_before M F n) F ran.due; unstopped = ran.unstopped })
@@ -70,6 +71,14 @@ stopped_is_run (Some a) M stop F histories to =
 
 -- ---- what the laws say of them
 
+votes_judged : (M : MissionValue) (L : Log) (n : ℕ) → IsMission M → n ≤ M.cycles → HasRun M L n → (m : ℕ) → m < n → JudgesVotes M (cycles_before M L m) (next_cycle M L (cycles_before M L m))
+votes_judged M L n mission early run zero soon = tt
+votes_judged M L n mission early run (suc c) soon =
+    λ q. record {
+      exactly = judged_exactly M L n mission early run c soon q;
+      damaged = λ was there marked wrong. damaged_is_judged M L n mission early run c soon q was there wrong marked;
+    }
+
 diagnosed : (M : MissionValue) (L : Log) (n : ℕ) → IsMission M → n ≤ M.cycles → HasRun M L n → DiagnosesRightly M (cycles_before M L n)
 diagnosed M L n mission early run =
     record {
@@ -81,6 +90,7 @@ diagnosed M L n mission early run =
       silent_removed = run_removes M L n mission early run;
       raised = raises_judged M L mission n;
       removed = removes_judged M L mission n;
+      votes = each_of M L (JudgesVotes M) n (votes_judged M L n mission early run);
       counts = run_counts M L mission n;
       seldom = run_keeps_seldom M L mission n;
       least = run_keeps_from_least M L mission n;

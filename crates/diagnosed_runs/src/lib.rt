@@ -20,7 +20,7 @@ pub fn cycles_that_ran_are_runs()
 {}
 
 /// So in each of these cycles who is undisturbed is left alone, who is removed was disturbed, who is silent or judged is
-/// removed in time, who is judged seldom stays, and a transfer takes its length.
+/// removed in time, a wrong vote is judged, who is judged seldom stays, and a transfer takes its length.
 pub fn runs_diagnose_rightly()
     ensures ran { (o : Option ActuatorValue) (M : MissionValue) (n : ℕ) (F : Log) (histories : Histories) → IsMission M →
         CyclesRan o M n F histories → DiagnosesRightly M (cycles_told o M F n) }
