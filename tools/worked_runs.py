@@ -417,7 +417,7 @@ def module_name(name):
 
 
 ANSWERS = """use Rattle.std.proofs.Common.{{refl}}
-use Rattle.guards_runs.proofs.OnLiterals.{{run_on_literals}}
+use Rattle.guards_runs.proofs.RunsOnLiterals.{{run_on_literals}}
 use Rattle.guards_runs.proofs.DueTest.{{{test}}}
 {uses}use Rattle.model_rows.specs.{module} as row
 use Rattle.model_rows.proofs.{name}.Goals as goal

@@ -7,7 +7,7 @@ use Rattle.guards_model.specs.Actuators.{words_towards}
 use Rattle.guards_model.specs.Words.{is_word}
 use Rattle.guards_model.specs.Network.{Log, without_outputs}
 use Rattle.guards_model.specs.Rounds.{Histories}
-use Rattle.guards_model.specs.Texts.{TextValue, Part, RecordValue, head_line, done_line, last_line, out_line, cycle_part, text_of}
+use Rattle.guards_model.specs.Texts.{TextValue, Part, RecordValue, head_line, done_line, last_line, out_line, cycle_part, text_of_parts}
 use Rattle.guards_runs.specs.Cycles.{Past, next_cycle, cycles_before}
 use Rattle.guards_runs.specs.Disturbed.{stop_of}
 use Rattle.guards_runs.specs.Outputs.{acted_stop, words_after, ideal_outputs}
@@ -16,16 +16,16 @@ use Rattle.guards_runs.specs.Promises.{EachCycle}
 use Rattle.guards_runs.specs.Soundness.{IsSoundCycle}
 use Rattle.guards_runs.specs.Report.{cycle_record, cycle_parts, parts_of, told_histories, traced_parts, traced, latest_steps, earlier_steps}
 use Rattle.run_laws.specs.Runs.{AreDueBy}
-use Rattle.report_lines.specs.Lines.{head_told, out_told, done_told, is_small, some_that, lines_in}
-use Rattle.guards_audit.specs.Told.{Told, next_number, words_told}
-use Rattle.guards_audit.specs.Tests.{words_fit, same_words}
+use Rattle.guards_audit.specs.Lines.{head_told, out_told, done_told, is_small, some_that, lines_in}
+use Rattle.guards_audit.specs.Told.{Told, next_cycle_number, words_told}
+use Rattle.guards_audit.specs.Tests.{words_fit, are_same_words}
 use Rattle.guards_audit.specs.Consistency.{Place, at_head, between, awaits_out, at_end, fits, after_cycle, AreGood, IsConsistent}
-use Rattle.report_lines.proofs.PrintedLines.{are_more, AreParts, are_more_parts, all_lines, lines_of_parts, head_is_line, out_is_line, done_is_line, cycle_part_is_lines}
+use Rattle.guards_audit.proofs.PrintedLines.{are_more, AreParts, are_more_parts, all_lines, lines_of_parts, head_is_line, out_is_line, done_is_line, cycle_part_is_lines}
 use Rattle.guards_laws.proofs.FirstStop.{told_whole}
 use Rattle.guards_model.proofs.BoolTests.{and_true}
 use Rattle.audit_laws.specs.Ends.{AreSoundlyDone}
-use Rattle.acted_runs.specs.Acting.{AreActedBy}
-use Rattle.acted_runs.specs.Driving.{CyclesRan, told_text}
+use Rattle.run_laws.specs.Acting.{AreActedBy}
+use Rattle.run_laws.specs.Driving.{CyclesRan, told_text}
 use Rattle.audit_laws.proofs.SameLists.{number_same, words_same}
 use Rattle.audit_laws.proofs.GoodCycle.{good_append, cycle_good}
 use Rattle.audit_laws.proofs.RunRecords.{records, length-records, HasLine}
@@ -105,7 +105,7 @@ module _ (M : MissionValue) (L : Log) (mission : IsMission M) where
         let words : List ℤ = words_after M a F n in
         let same : words ≡ words_told a told = ideal n early ∙ sym (words_records histories n h) in
         let form : some_that is_word words ≡ true = subst (λ ws. some_that is_word ws ≡ true) (sym (ideal n early)) (outs_form M a mission is L n early) in
-        let equal : same_words words (words_told a told) ≡ true = subst (λ ws. same_words words ws ≡ true) same (words_same words) in
+        let equal : are_same_words words (words_told a told) ≡ true = subst (λ ws. are_same_words words ws ≡ true) same (words_same words) in
         let suit : words_fit M.actuator told words ≡ true = subst (λ o. words_fit o told words ≡ true) (sym is) equal in
         (out_told words, refl, and_true (some_that is_word words) (words_fit M.actuator told words) form suit, refl)
 
@@ -129,17 +129,17 @@ module _ (M : MissionValue) (L : Log) (mission : IsMission M) where
 -- a text whose cycles are told by good lines is consistent
 text_good : (M : MissionValue) (L : Log) (histories : Histories) (parts : List Part) → IsMission M → AreParts parts →
     AreGood M (between []) (all_lines parts) (between (records M histories (cycles_before M L M.cycles))) →
-    IsConsistent M (text_of ((head_line M.rules.channels M.cycles ∷ []) ∷ (parts ++ (done_line M.cycles ∷ []) ∷ [])))
+    IsConsistent M (text_of_parts ((head_line M.rules.channels M.cycles ∷ []) ∷ (parts ++ (done_line M.cycles ∷ []) ∷ [])))
 text_good M L histories parts mission made good =
     let told : Told = records M histories (cycles_before M L M.cycles) in
     let all : List Part = (head_line M.rules.channels M.cycles ∷ []) ∷ (parts ++ (done_line M.cycles ∷ []) ∷ []) in
     let are : AreParts all = ((head_is_line M.rules.channels M.cycles, tt), are_more_parts parts ((done_line M.cycles ∷ []) ∷ []) made ((done_is_line M.cycles, tt), tt)) in
-    let lines : lines_in (text_of all) ≡ head_line M.rules.channels M.cycles ∷ (all_lines parts ++ done_line M.cycles ∷ []) =
+    let lines : lines_in (text_of_parts all) ≡ head_line M.rules.channels M.cycles ∷ (all_lines parts ++ done_line M.cycles ∷ []) =
     lines_of_parts all are ∙ ap (λ ls. head_line M.rules.channels M.cycles ∷ ls) (flat_map-append (λ (part : Part). part) parts ((done_line M.cycles ∷ []) ∷ [])) in
     let few : is_small M.cycles ≡ true = small-is M.cycles (omega (arith, (ranges M mission).cycles)) in
     let size : length told ≡ M.cycles = length-records M histories (cycles_before M L M.cycles) ∙ length-cycles M L M.cycles in
     let last : AreGood M (between told) (done_line M.cycles ∷ []) at_end =
-    (done_told M.cycles, refl, and_true (is_small M.cycles) _ few (and_true (next_number told == M.cycles) (M.cycles == M.cycles) (eq-eqb (length told) M.cycles size) (number_same M.cycles)), refl) in
+    (done_told M.cycles, refl, and_true (is_small M.cycles) _ few (and_true (next_cycle_number told == M.cycles) (M.cycles == M.cycles) (eq-eqb (length told) M.cycles size) (number_same M.cycles)), refl) in
     let first : IsTrue (fits M at_head (head_told M.rules.channels M.cycles)) =
     and_true (is_small M.rules.channels && is_small M.cycles) _ (and_true (is_small M.rules.channels) (is_small M.cycles) (small-is M.rules.channels (omega (arith, channels_few M mission))) few)
     (and_true (M.rules.channels == M.rules.channels) (M.cycles == M.cycles) (number_same M.rules.channels) (number_same M.cycles)) in
@@ -189,13 +189,13 @@ by_actuator : (M : MissionValue) (F : Log) (histories : Histories) → IsMission
 unfolding traced acted_report
 by_actuator M F histories mission None is ran =
     let cycles = cycles_before M F M.cycles in
-    subst (λ ps. IsConsistent M (text_of ps)) (sym (parts_whole M F histories ran.unstopped))
+    subst (λ ps. IsConsistent M (text_of_parts ps)) (sym (parts_whole M F histories ran.unstopped))
     (text_good M F histories (cycle_parts true M histories cycles) mission (parts_are_lines M histories cycles)
     (cycles_good M F mission is histories M.cycles (omega arith) (done_by M histories cycles F ran.due ran.sound.cycles)))
 by_actuator M F histories mission (Some a) is ran =
     let L : Log = without_outputs F in
     let cycles = cycles_before M L M.cycles in
-    subst (λ ps. IsConsistent M (text_of ps)) (sym (acted_whole M a F histories cycles ran.unstopped))
+    subst (λ ps. IsConsistent M (text_of_parts ps)) (sym (acted_whole M a F histories cycles ran.unstopped))
     (text_good M L histories (acted_parts true M a F histories cycles) mission (acted_are_lines M a F histories cycles)
     (acted_good M L mission a is F ran.ideal histories M.cycles (omega arith) (acted_done_by M histories cycles F ran.acted ran.sound.cycles)))
 

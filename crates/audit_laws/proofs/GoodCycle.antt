@@ -11,17 +11,17 @@ use Rattle.guards_model.specs.Frames.{ascends, is_channel}
 use Rattle.guards_model.specs.Rounds.{is_task, is_sweep}
 use Rattle.guards_model.specs.Decisions.{joined_of}
 use Rattle.guards_model.specs.Texts.{TextValue, LineValue, TraceValue, RecordValue, channel_line, trace_line, end_line, cycle_part}
-use Rattle.report_lines.specs.Lines.{cycle_told, channel_told, steps_told, end_told, closed, is_form}
-use Rattle.guards_audit.specs.Told.{Told, next_number, plan_told, number_remaining, rest_told}
-use Rattle.guards_audit.specs.Tests.{cycle_fits, comes_next, says_same, first_fits, same_number, all_traced, removed_fits, same_words, same_votes}
-use Rattle.guards_audit.specs.Consistency.{Place, between, amid, fits, after, after_cycle, AreGood}
+use Rattle.guards_audit.specs.Lines.{cycle_told, channel_told, steps_told, end_told, closed_record, is_form}
+use Rattle.guards_audit.specs.Told.{Told, next_cycle_number, plan_told, number_remaining, rest_told}
+use Rattle.guards_audit.specs.Tests.{cycle_fits, comes_next, says_same, first_fits, same_number, all_traced, removed_fits, are_same_words, same_votes}
+use Rattle.guards_audit.specs.Consistency.{Place, between, amid, fits, following_place, after_cycle, AreGood}
 use Rattle.guards_model.proofs.BoolTests.{both, and_true}
 use Rattle.audit_laws.proofs.SameLists.{bytes_same, bytes_alike, words_same, votes_same, option_same, above_front}
 
 -- lines that are good, and then more
 pub good_append : (M : MissionValue) (place middle last : Place) (lines more : List TextValue) → AreGood M place lines middle → AreGood M middle more last → AreGood M place (lines ++ more) last
 good_append M place middle last [] more h k = subst (λ (p : Place). AreGood M p more last) (sym h) k
-good_append M place middle last (line ∷ lines) more h k = (h.0, h.1, h.2, good_append M (after M place h.0) middle last lines more h.3 k)
+good_append M place middle last (line ∷ lines) more h k = (h.0, h.1, h.2, good_append M (following_place M place h.0) middle last lines more h.3 k)
 
 -- a line of a channel that says the same
 abbrev pub line_for : LineValue → Channel → LineValue
@@ -49,7 +49,7 @@ pub record IsFit (M : MissionValue) (told : Told) (r : RecordValue) : Type 0 whe
   pub says : first_fits M told r base ≡ true
   pub working : ascends workers ≡ true
   pub workers_active : list_all (has r.active) workers ≡ true
-  pub full : list_all (λ p. count_by is_task (steps p) == length (cycle_writes M (next_number told))
+  pub full : list_all (λ p. count_by is_task (steps p) == length (cycle_writes M (next_cycle_number told))
       && count_by is_sweep (steps p) == length (plan_told M told r.transfer)) workers ≡ true
   pub traced : list_all (has workers) (first ∷ others) ≡ true
   pub removed : removed_fits M r r.removed ≡ true
@@ -71,8 +71,8 @@ map-worker steps (x ∷ xs) = ap (λ ys. x ∷ ys) (map-worker steps xs)
 module _ (M : MissionValue) (told : Told) (r : RecordValue) (base : LineValue) where
   same_as_first : (p q : Channel) → says_same (line_for base p) (line_for base q) ≡ true
   same_as_first p q =
-      and_true (same_words base.inputs base.inputs && same_votes base.votes base.votes) _
-      (and_true (same_words base.inputs base.inputs) (same_votes base.votes base.votes) (words_same base.inputs) (votes_same base.votes))
+      and_true (are_same_words base.inputs base.inputs && same_votes base.votes base.votes) _
+      (and_true (are_same_words base.inputs base.inputs) (same_votes base.votes base.votes) (words_same base.inputs) (votes_same base.votes))
       (and_true _ _ (bytes_same base.judged) (bytes_same base.counts))
 
   -- later lines
@@ -114,7 +114,7 @@ module _ (M : MissionValue) (told : Told) (r : RecordValue) (base : LineValue) w
 
 module _ (M : MissionValue) (told : Told) (r : RecordValue) (first : LineValue) (lines : List LineValue) (steps : Channel → List Actor) where
   abbrev fits_steps : Channel → Bool
-  fits_steps p = count_by is_task (steps p) == length (cycle_writes M (next_number told)) && count_by is_sweep (steps p) == length (plan_told M told r.transfer)
+  fits_steps p = count_by is_task (steps p) == length (cycle_writes M (next_cycle_number told)) && count_by is_sweep (steps p) == length (plan_told M told r.transfer)
 
   -- the lines of steps
   all_steps : (xs ys : List Channel) → ascends (xs ++ ys) ≡ true → list_all (has r.active) ys ≡ true → list_all fits_steps ys ≡ true → list_all is_channel ys ≡ true →
@@ -167,7 +167,7 @@ cycle_good M told r f =
     (and_true (all_traced (so_far r ls ts) && removed_fits M (so_far r ls ts) r.removed) _
     (and_true (all_traced (so_far r ls ts)) (removed_fits M (so_far r ls ts) r.removed) (all-traced f.base f.steps f.workers (f.first ∷ f.others) f.traced) removed)
     (and_true (same_number r.remaining (number_remaining M told r.transfer)) _ remaining joined)) in
-    let last : closed (so_far r ls ts) r.removed r.joined r.remaining ≡ r = λ i. record r { lines = sym f.lines i; traces = sym f.traces i } in
+    let last : closed_record (so_far r ls ts) r.removed r.joined r.remaining ≡ r = λ i. record r { lines = sym f.lines i; traces = sym f.traces i } in
     let ended : AreGood M (amid told (so_far r ls ts)) (end_line r ∷ []) (after_cycle M.actuator (r ∷ told)) =
     (end_told r.removed r.joined r.remaining, refl, ends, ap (λ (x : RecordValue). after_cycle M.actuator (x ∷ told)) last) in
     let body : AreGood M (amid told (so_far r [] [])) ((map channel_line ls ++ map trace_line ts) ++ end_line r ∷ []) (after_cycle M.actuator (r ∷ told)) =

@@ -6,3 +6,5 @@ pub mod RunRanges
 pub mod RunFits
 pub mod Consistent
 pub mod OutWords
+pub mod CycleTexts
+pub mod RunsBack

@@ -9,7 +9,7 @@ use Rattle.guards_model.specs.declared.Code.TheVariants.{Ramp}
 use Rattle.guards_model.specs.declared.Slot.TheVariants.{Switch}
 use Rattle.guards_model.specs.Words.{is_word}
 use Rattle.guards_model.specs.Channels.{has, numbers_below}
-use Rattle.guards_model.specs.Contexts.{word_of, word_at}
+use Rattle.guards_model.specs.Contexts.{word_of, context_word}
 use Rattle.guards_model.specs.Modes.{is_up}
 use Rattle.guards_model.specs.Voting.{present}
 use Rattle.guards_model.specs.Missions.{MissionValue, ActuatorValue, IsMission, is_actuator, output_words, within}
@@ -20,9 +20,9 @@ use Rattle.guards_model.specs.Texts.{LineValue}
 use Rattle.guards_runs.specs.Cycles.{Cycle, Past, mode_in, next_cycle, cycles_before}
 use Rattle.guards_runs.specs.Promises.{Agrees}
 use Rattle.guards_runs.specs.Outputs.{ideal_outputs}
-use Rattle.guards_runs.specs.Report.{cycle_record, running_in, latest_steps}
+use Rattle.guards_runs.specs.Report.{cycle_record, channels_running_in, latest_steps}
 use Rattle.guards_audit.specs.Told.{first_line}
-use Rattle.report_lines.specs.Lines.{some_that, is_empty}
+use Rattle.guards_audit.specs.Lines.{some_that, is_empty}
 use Rattle.guards_model.proofs.BoolTests.{both, and_true, or_left}
 use Rattle.guards_model.proofs.ListTests.{all-map, weaken}
 use Rattle.guards_model.proofs.Tables.{has-filter}
@@ -64,11 +64,11 @@ drive_of M a mission is =
       some = leb-true 1 (length M.outputs) (both (nat_le 1 (length M.outputs)) (nat_le (length M.outputs) 8) outs.0).0;
     }
 
-outputs_words : (M : MissionValue) (L : Log) (n : ℕ) → IsMission M → n < M.cycles → (os : List (ℕ × ℕ)) → list_all is_word (map (λ (o : ℕ × ℕ). word_at (next_cycle M L (cycles_before M L n)).ideal_context o.0 o.1) os) ≡ true
+outputs_words : (M : MissionValue) (L : Log) (n : ℕ) → IsMission M → n < M.cycles → (os : List (ℕ × ℕ)) → list_all is_word (map (λ (o : ℕ × ℕ). context_word (next_cycle M L (cycles_before M L n)).ideal_context o.0 o.1) os) ≡ true
 outputs_words M L n mission early [] = refl
 outputs_words M L n mission early (o ∷ os) =
     let ctx = (next_cycle M L (cycles_before M L n)).ideal_context in
-    and_true (is_word (word_at ctx o.0 o.1)) (list_all is_word (map (λ (p : ℕ × ℕ). word_at ctx p.0 p.1) os))
+    and_true (is_word (context_word ctx o.0 o.1)) (list_all is_word (map (λ (p : ℕ × ℕ). context_word ctx p.0 p.1) os))
     (word_at_in ctx o.0 o.1 (ideal_whole M L (suc n) mission early)) (outputs_words M L n mission early os)
 
 module _ (M : MissionValue) (a : ActuatorValue) (mission : IsMission M) (is : M.actuator ≡ Some a) (L : Log) where
@@ -98,7 +98,7 @@ present_some (w ∷ words) = ap (λ ws. w ∷ ws) (present_some words)
 
 first_active : (e : Cycle) (some : HasLine e) → has e.active some.first ≡ true
 first_active e some =
-    let there : has (running_in Switch e) some.first ≡ true = ap (λ ps. has ps some.first) some.run ∙ or_left (some.first == some.first) (has some.others some.first) (number_same some.first) in
+    let there : has (channels_running_in Switch e) some.first ≡ true = ap (λ ps. has ps some.first) some.run ∙ or_left (some.first == some.first) (has some.others some.first) (number_same some.first) in
     (both (is_up (mode_in e some.first Switch)) (has e.active some.first) (sym (has-filter (λ q. is_up (mode_in e q Switch)) e.active some.first) ∙ there)).1
 
 -- the first line of a cycle has the output words of the ideal context as its votes

@@ -9,7 +9,7 @@ use Rattle.std.proofs.lemmas.List.FromFn.{length-range_with_len}
 use Rattle.guards_model.specs.declared.Slot.TheVariants.{Tasks, Switch}
 use Rattle.guards_model.specs.Words.{is_word}
 use Rattle.guards_model.specs.Channels.{Channel, ChannelSet, has, place_or, without, numbers_below, by_channel}
-use Rattle.guards_model.specs.Contexts.{word_at}
+use Rattle.guards_model.specs.Contexts.{context_word}
 use Rattle.guards_model.specs.Transfers.{TransferValue, remains}
 use Rattle.guards_model.specs.Tasks.{whole}
 use Rattle.guards_model.specs.Missions.{MissionValue, IsMission, cycle_writes, written_blocks, output_words, within}
@@ -20,13 +20,13 @@ use Rattle.guards_model.specs.Decisions.{joined_of}
 use Rattle.guards_model.specs.Network.{Log}
 use Rattle.guards_model.specs.Rounds.{Steps, Histories, is_task, is_sweep, steps_of}
 use Rattle.guards_model.specs.Texts.{LineValue, RecordValue}
-use Rattle.guards_runs.specs.Cycles.{Cycle, Past, mode_in, is_damaged, swept_since, remaining_of, base_counts, opening_of, agreement_of, decision_of, work_of, cycle_from, next_cycle, cycles_before}
+use Rattle.guards_runs.specs.Cycles.{Cycle, Past, mode_in, is_damaged, swept_since, remaining_of, base_counts, cycle_start_of, agreement_of, decision_of, work_of, cycle_from, next_cycle, cycles_before}
 use Rattle.guards_runs.specs.Disturbed.{disturbed_channels, is_charge}
 use Rattle.guards_runs.specs.Promises.{EachCycle, Agrees, is_undisturbed}
-use Rattle.guards_runs.specs.Report.{cycle_record, line_of, running_in, remaining_in}
+use Rattle.guards_runs.specs.Report.{cycle_record, line_of, channels_running_in, remaining_in}
 use Rattle.guards_world.specs.WorldCycle.{AreFull}
-use Rattle.report_lines.specs.Lines.{cycle_told, channel_told, end_told, is_empty, some_that, is_small, is_cast, if_there, is_transfer, is_form}
-use Rattle.guards_audit.specs.Told.{Told, next_number, first_line, active_told, counts_told, context_told, plan_told}
+use Rattle.guards_audit.specs.Lines.{cycle_told, channel_told, end_told, is_empty, some_that, is_small, is_cast, if_there, is_transfer, is_form}
+use Rattle.guards_audit.specs.Told.{Told, next_cycle_number, first_line, active_told, counts_told, context_told, plan_told}
 use Rattle.guards_audit.specs.Tests.{cycle_fits, transfer_fits, counts_fit, votes_fit, removed_fits, stays_rightly}
 use Rattle.guards_model.proofs.BoolTests.{both, and_true, or_left, first_false, no_first, not_false}
 use Rattle.guards_model.proofs.Tables.{has-filter}
@@ -104,7 +104,7 @@ module _ (M : MissionValue) (active : ChannelSet) (test : ℕ → Bool) (set : i
 
 -- ---- who has a line
 
-line_by : (ps : ChannelSet) (q : Channel) (e : Cycle) → running_in Switch e ≡ ps → has ps q ≡ true → HasLine e
+line_by : (ps : ChannelSet) (q : Channel) (e : Cycle) → channels_running_in Switch e ≡ ps → has ps q ≡ true → HasLine e
 line_by [] q e h there = absurd cc
 line_by (p ∷ ps) q e h there = record { first = p; others = ps; run = h }
 
@@ -126,7 +126,7 @@ has_line M past e mission a =
     let w = both (nat_le 1 M.width) (nat_le M.width 4) mission.width in
     let q = a.least 0 (leb-true 1 M.width w.0) in
     let up = undisturbed_up (length past) e q.0 q.1 in
-    line_by (running_in Switch e) q.0 e refl (has-filter (λ p. is_up (mode_in e p Switch)) e.active q.0 ∙ and_true (is_up (mode_in e q.0 Switch)) (has e.active q.0) up.1 up.0)
+    line_by (channels_running_in Switch e) q.0 e refl (has-filter (λ p. is_up (mode_in e p Switch)) e.active q.0 ∙ and_true (is_up (mode_in e q.0 Switch)) (has e.active q.0) up.1 up.0)
 
 -- ---- the record of a cycle
 
@@ -158,11 +158,11 @@ module _ (M : MissionValue) (L : Log) (mission : IsMission M) (histories : Histo
   candidate q = nat_le M.rules.threshold (place_or e.counts q 0) || asks e.active e.fresh e.agreed q
 
   removed_is : e.removed ≡ take (length e.active - 3) (filter candidate e.active)
-  unfolding cycle_from decision_of opening_of agreement_of
+  unfolding cycle_from decision_of cycle_start_of agreement_of
   removed_is = refl
 
   counts_are : e.counts ≡ counts_of M.rules.law M.rules.keep M.rules.decrement e.active e.judged (base_counts M past)
-  unfolding cycle_from decision_of opening_of agreement_of
+  unfolding cycle_from decision_of cycle_start_of agreement_of
   counts_are = refl
 
   joined_are : e.joined ≡ joined_of M.rules.last e.transfer e.remaining
@@ -183,8 +183,8 @@ module _ (M : MissionValue) (L : Log) (mission : IsMission M) (histories : Histo
 
   opens : cycle_fits M told (length past) e.active e.transfer ≡ true
   opens =
-      and_true (nat_lt (length past) M.cycles && length past == next_number told) _
-      (and_true (nat_lt (length past) M.cycles) (length past == next_number told) (le-leb (suc (length past)) M.cycles (omega (arith, length-cycles M L n, early)))
+      and_true (nat_lt (length past) M.cycles && length past == next_cycle_number told) _
+      (and_true (nat_lt (length past) M.cycles) (length past == next_cycle_number told) (le-leb (suc (length past)) M.cycles (omega (arith, length-cycles M L n, early)))
       (ap (λ k. length past == k) size ∙ number_same (length past)))
       (and_true (bytes_eq e.active (active_told M told)) (transfer_fits M told e.active e.transfer)
       (bytes_alike e.active (active_told M told) (active-is M L past ∙ sym (active-records M histories past)))
@@ -228,10 +228,10 @@ module _ (M : MissionValue) (L : Log) (mission : IsMission M) (histories : Histo
       and_true (is_small (length past)) _ (short (length past) (omega (arith, length-cycles M L n)))
       (and_true (is_set e.active) (if_there is_transfer e.transfer) active_set_now (transfer_formed e.transfer refl))
 
-  outputs_cast : (os : List (ℕ × ℕ)) → list_all is_cast (map (λ w. Some w) (map (λ (o : ℕ × ℕ). word_at e.ideal_context o.0 o.1) os)) ≡ true
+  outputs_cast : (os : List (ℕ × ℕ)) → list_all is_cast (map (λ w. Some w) (map (λ (o : ℕ × ℕ). context_word e.ideal_context o.0 o.1) os)) ≡ true
   outputs_cast [] = refl
   outputs_cast (o ∷ os) =
-      and_true (is_word (word_at e.ideal_context o.0 o.1)) (list_all is_cast (map (λ w. Some w) (map (λ (o : ℕ × ℕ). word_at e.ideal_context o.0 o.1) os)))
+      and_true (is_word (context_word e.ideal_context o.0 o.1)) (list_all is_cast (map (λ w. Some w) (map (λ (o : ℕ × ℕ). context_word e.ideal_context o.0 o.1) os)))
       (word_at_in e.ideal_context o.0 o.1 (ideal_whole M L (suc n) mission early)) (outputs_cast os)
 
   outputs_some : some_that is_cast (map (λ w. Some w) (output_words M e.ideal_context)) ≡ true
@@ -239,7 +239,7 @@ module _ (M : MissionValue) (L : Log) (mission : IsMission M) (histories : Histo
       let many = both (within 1 8 (length M.outputs)) (list_all (λ (o : ℕ × ℕ). nat_lt o.0 M.rules.blocks && nat_lt o.1 8) M.outputs) mission.outputs in
       and_true (not (is_empty (map (λ w. Some w) (output_words M e.ideal_context)))) _
       (not_empty (map (λ w. Some w) (output_words M e.ideal_context))
-      (omega (arith, length-map (output_words M e.ideal_context) (λ w. Some w), length-map M.outputs (λ (o : ℕ × ℕ). word_at e.ideal_context o.0 o.1), leb-true 1 (length M.outputs) (both (nat_le 1 (length M.outputs)) (nat_le (length M.outputs) 8) many.0).0)))
+      (omega (arith, length-map (output_words M e.ideal_context) (λ w. Some w), length-map M.outputs (λ (o : ℕ × ℕ). context_word e.ideal_context o.0 o.1), leb-true 1 (length M.outputs) (both (nat_le 1 (length M.outputs)) (nat_le (length M.outputs) 8) many.0).0)))
       (outputs_cast M.outputs)
 
   inputs_some : some_that is_word e.inputs ≡ true
@@ -300,7 +300,7 @@ module _ (M : MissionValue) (L : Log) (mission : IsMission M) (histories : Histo
 
     lines_are : r.lines ≡ map (line_for base) runners
     lines_are =
-        map_same (line_of M e) (line_for base) (running_in Switch e)
+        map_same (line_of M e) (line_for base) (channels_running_in Switch e)
         (λ p there. let votes = a.votes p (both (is_up (mode_in e p Switch)) (has e.active p) (sym (has-filter (λ q. is_up (mode_in e q Switch)) e.active p) ∙ there)).1 in
         λ i. record { channel = p; inputs = e.inputs; votes = votes i; judged = e.judged; counts = take M.rules.channels e.counts })
         ∙ ap (map (line_for base)) some.run
@@ -322,17 +322,17 @@ module _ (M : MissionValue) (L : Log) (mission : IsMission M) (histories : Histo
         (le-leb 3 (length (without e.active gone)) (three_left e.active candidate active_set_now three))
         (from_members (stays_rightly M r gone) e.active (λ q there. stays M e.active candidate active_set_now three (first_line r).counts q there (reached q there)))))
 
-    traced_all : list_all (has (running_in Tasks e)) runners ≡ true
+    traced_all : list_all (has (channels_running_in Tasks e)) runners ≡ true
     traced_all =
-        subst (λ ps. list_all (has (running_in Tasks e)) ps ≡ true) some.run
-        (from_members (has (running_in Tasks e)) (running_in Switch e) (λ q there.
+        subst (λ ps. list_all (has (channels_running_in Tasks e)) ps ≡ true) some.run
+        (from_members (has (channels_running_in Tasks e)) (channels_running_in Switch e) (λ q there.
         let parts = both (is_up (mode_in e q Switch)) (has e.active q) (sym (has-filter (λ p. is_up (mode_in e p Switch)) e.active q) ∙ there) in
         has-filter (λ p. is_up (mode_in e p Tasks)) e.active q
         ∙ and_true (is_up (mode_in e q Tasks)) (has e.active q) (up_in_slot M L past q Tasks Switch (member-channel e.active q active_set_now parts.1) refl parts.0) parts.1))
 
-    full_all : list_all (λ p. count_by is_task (steps_of steps p) == length (cycle_writes M (next_number told)) && count_by is_sweep (steps_of steps p) == length (plan_told M told e.transfer)) (running_in Tasks e) ≡ true
+    full_all : list_all (λ p. count_by is_task (steps_of steps p) == length (cycle_writes M (next_cycle_number told)) && count_by is_sweep (steps_of steps p) == length (plan_told M told e.transfer)) (channels_running_in Tasks e) ≡ true
     full_all =
-        from_members _ (running_in Tasks e) (λ p there. let f = full p there in
+        from_members _ (channels_running_in Tasks e) (λ p there. let f = full p there in
         and_true _ _
         (eq-eqb (count_by is_task (steps_of steps p)) (length (cycle_writes M (length told))) (f.tasks ∙ ap (λ c. length (cycle_writes M c)) (sym size)))
         (eq-eqb (count_by is_sweep (steps_of steps p)) (length (plan_told M told e.transfer)) (f.sweeps ∙ ap (λ (bs : List ℕ). length bs) (sym (plan-records M L n histories)))))
@@ -343,7 +343,7 @@ module _ (M : MissionValue) (L : Log) (mission : IsMission M) (histories : Histo
           base = base;
           first = some.first;
           others = some.others;
-          workers = running_in Tasks e;
+          workers = channels_running_in Tasks e;
           steps = steps_of steps;
           lines = lines_are;
           traces = refl;
@@ -354,7 +354,7 @@ module _ (M : MissionValue) (L : Log) (mission : IsMission M) (histories : Histo
               (and_true (length e.inputs == M.width) _ (eq-eqb (length e.inputs) M.width inputs_many) (both (is_set e.judged) (list_all (has e.active) e.judged) judged_fit).1)
               (and_true (counts_fit M told r base) (votes_fit M told base) counts_do votes_do);
           working = ascends-filter (λ p. is_up (mode_in e p Tasks)) e.active (set_parts e.active active_set_now).1;
-          workers_active = in_active (running_in Tasks e) (λ p. is_up (mode_in e p Tasks)) refl;
+          workers_active = in_active (channels_running_in Tasks e) (λ p. is_up (mode_in e p Tasks)) refl;
           full = full_all;
           traced = traced_all;
           removed = removed_do;
@@ -363,6 +363,6 @@ module _ (M : MissionValue) (L : Log) (mission : IsMission M) (histories : Histo
           cycle_form = cycle_formed;
           line_form = from_members (λ p. is_form (channel_told (line_for base p))) runners
               (λ p there. line_formed p (member_passes (has e.active) runners p (in_active runners (λ q. is_up (mode_in e q Switch)) some.run) there));
-          steps_form = (set_parts (running_in Tasks e) (set-filter (λ p. is_up (mode_in e p Tasks)) e.active active_set_now)).0;
+          steps_form = (set_parts (channels_running_in Tasks e) (set-filter (λ p. is_up (mode_in e p Tasks)) e.active active_set_now)).0;
           end_form = end_formed;
         }

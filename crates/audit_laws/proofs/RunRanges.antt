@@ -10,8 +10,8 @@ use Rattle.guards_model.specs.Missions.{MissionValue, IsMission}
 use Rattle.guards_model.specs.Frames.{count_cap}
 use Rattle.guards_model.specs.Diagnosis.{count_step, counts_of}
 use Rattle.guards_model.specs.Network.{Log}
-use Rattle.guards_runs.specs.Cycles.{Past, active_set, base_counts, opening_of, agreement_of, decision_of, cycle_from, next_cycle, cycles_before}
-use Rattle.report_lines.specs.Lines.{is_empty, is_small}
+use Rattle.guards_runs.specs.Cycles.{Past, active_set, base_counts, cycle_start_of, agreement_of, decision_of, cycle_from, next_cycle, cycles_before}
+use Rattle.guards_audit.specs.Lines.{is_empty, is_small}
 use Rattle.guards_model.proofs.BoolTests.{both}
 use Rattle.guards_model.proofs.ListTests.{all-map, weaken}
 use Rattle.guards_laws.proofs.Planned.{ranges}
@@ -61,7 +61,7 @@ module _ (M : MissionValue) (L : Log) (mission : IsMission M) where
       (step_counts M.rules.law M.rules.keep M.rules.decrement (has judged q) (place_or base q 0) (ranges M mission).keep (count_at base q h)))
 
   counts-is : (past : Past) → (next_cycle M L past).counts ≡ counts_of M.rules.law M.rules.keep M.rules.decrement (next_cycle M L past).active (next_cycle M L past).judged (base_counts M past)
-  unfolding cycle_from decision_of opening_of agreement_of
+  unfolding cycle_from decision_of cycle_start_of agreement_of
   counts-is past = refl
 
   base_good : (n : ℕ) → list_all is_count (base_counts M (cycles_before M L n)) ≡ true

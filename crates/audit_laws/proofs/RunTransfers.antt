@@ -10,10 +10,10 @@ use Rattle.guards_model.specs.Diagnosis.{Agreed, asks}
 use Rattle.guards_model.specs.Transfers.{TransferValue, stays, kept_targets, new_targets, transfer_to, start_of}
 use Rattle.guards_model.specs.Network.{Log}
 use Rattle.guards_model.specs.Rounds.{Histories}
-use Rattle.guards_runs.specs.Cycles.{Past, active_set, running_transfer, entries_of, opening_of, agreement_of, decision_of, cycle_from, next_cycle, cycles_before}
-use Rattle.guards_audit.specs.Told.{next_number}
-use Rattle.report_lines.specs.Lines.{is_empty}
-use Rattle.guards_audit.specs.Tests.{continues, goes_on, is_passive, transfer_fits}
+use Rattle.guards_runs.specs.Cycles.{Past, active_set, running_transfer, entries_of, cycle_start_of, agreement_of, decision_of, cycle_from, next_cycle, cycles_before}
+use Rattle.guards_audit.specs.Told.{next_cycle_number}
+use Rattle.guards_audit.specs.Lines.{is_empty}
+use Rattle.guards_audit.specs.Tests.{continues, transfer_goes_on, is_passive, transfer_fits}
 use Rattle.guards_model.proofs.BoolTests.{and_true, or_true, or_left}
 use Rattle.guards_model.proofs.AscendingLists.{member_passes, below_under}
 use Rattle.guards_model.proofs.Counting.{has-head}
@@ -81,9 +81,9 @@ new_targets_are M active fresh agreed c t h =
 
 module _ (M : MissionValue) (L : Log) where
   targets_by : (past : Past) (t : TransferValue) → (next_cycle M L past).transfer ≡ Some t → ((r : TransferValue) → running_transfer past ≡ Some r → AreTargets M r.targets) → (1 ≤ length t.targets) × AreTargets M t.targets
-  unfolding cycle_from decision_of opening_of
+  unfolding cycle_from decision_of cycle_start_of
   targets_by past t h before =
-      let o = opening_of M past in
+      let o = cycle_start_of M past in
       let agreed : Agreed = (agreement_of M (entries_of (length past) L) past o).agreed in
       elim (either (transfer_to (kept_targets o.active agreed (length past) (running_transfer past)) (start_of (running_transfer past)))
       (transfer_to (new_targets M.rules.channels M.rules.returning o.active o.fresh agreed) (length past)) t h) [
@@ -104,9 +104,9 @@ module _ (M : MissionValue) (L : Log) where
   empty_is joined h = ap is_empty h
 
   goes_by : (histories : Histories) (n : ℕ) (t : TransferValue) → (t.start ≡ length (cycles_before M L n)) ⊎ IsKept (cycles_before M L n) t →
-      (t.start == next_number (records M histories (cycles_before M L n)) || goes_on (records M histories (cycles_before M L n)) t) ≡ true
+      (t.start == next_cycle_number (records M histories (cycles_before M L n)) || transfer_goes_on (records M histories (cycles_before M L n)) t) ≡ true
   goes_by histories n t (inl starts) =
-      or_left (t.start == next_number (records M histories (cycles_before M L n))) _
+      or_left (t.start == next_cycle_number (records M histories (cycles_before M L n))) _
       (ap (λ k. t.start == k) (length-records M histories (cycles_before M L n) ∙ sym starts) ∙ number_same t.start)
   goes_by histories zero t (inr kept) = absurd (none kept.running kept.ran)
     where
@@ -118,7 +118,7 @@ module _ (M : MissionValue) (L : Log) where
       let same : (kept.running.start == t.start) ≡ true = ap (λ s. kept.running.start == s) kept.same_start ∙ number_same kept.running.start in
       let goes : continues (Some kept.running) t ≡ true =
       and_true (kept.running.start == t.start) (list_all (has kept.running.targets) t.targets) same (from_members (has kept.running.targets) t.targets kept.within) in
-      or_true (t.start == next_number (records M histories (cycles_before M L (suc n)))) (is_empty e.joined && continues e.transfer t)
+      or_true (t.start == next_cycle_number (records M histories (cycles_before M L (suc n)))) (is_empty e.joined && continues e.transfer t)
       (and_true (is_empty e.joined) (continues e.transfer t) (empty_is e.joined on.0) (ap (λ o. continues o t) on.1 ∙ goes))
 
   passive_is : (n : ℕ) (t : TransferValue) → (next_cycle M L (cycles_before M L n)).transfer ≡ Some t → (active : ChannelSet) → active ≡ active_set M (cycles_before M L n) →

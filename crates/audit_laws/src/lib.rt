@@ -1,12 +1,16 @@
-//! The law of traces: what a run that came to its end tells is a trace that its mission may have.
+//! What a run tells is a trace that its mission may have, and a report that is read back.
 #![tactic(auto)]
 
-ghost use Rattle.acted_runs.specs.Driving.{CyclesRan, told_text};
+mod reports;
+
+ghost use Rattle.run_laws.specs.Driving.{CyclesRan, told_text};
 ghost use Rattle.guards_audit.specs.Consistency.{IsConsistent};
 ghost use Rattle.guards_model.specs.Missions.{MissionValue, IsMission};
 ghost use Rattle.guards_model.specs.Network.{Log};
 ghost use Rattle.guards_model.specs.Rounds.{Histories};
 ghost use Rattle.std.specs.Prelude.{true};
+
+pub use reports::reports_read_back;
 
 /// Whatever the bus delivered and however the steps fell: the traced text of a run that came to its end is consistent
 /// with its mission, with an actuator or without.

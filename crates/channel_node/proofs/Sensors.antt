@@ -8,7 +8,7 @@ use Rattle.guards_base.specs.Padding.{padded, IsPadded}
 use Rattle.guards_model.specs.Words.{is_word}
 use Rattle.guards_model.specs.Missions.{MissionValue, IsMission, sensor}
 use Rattle.guards_model.proofs.BoolTests.{both}
-use Rattle.guards_laws.proofs.WordRanges.{sensor_words}
+use Rattle.guards_model.proofs.SensorWords.{sensor_words}
 
 length_sensor : (M : MissionValue) (p c : ℕ) → IsMission M → p < M.rules.channels → length (sensor M p c) ≡ M.width
 length_sensor M p c mission low =

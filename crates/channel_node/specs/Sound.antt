@@ -10,7 +10,7 @@ state_fits blocks fallen = true
 state_fits blocks resting = true
 state_fits blocks (returning j) = length j.replica.blocks == blocks
 
-pub record IsSound (channel : Channel) (rules : RulesValue) (state : StateValue) : Type 0 where
+pub record IsNodeInRange (channel : Channel) (rules : RulesValue) (state : StateValue) : Type 0 where
   pub rules_are : is_rules rules ≡ true
   pub channel_is : channel < rules.channels
   pub fits : state_fits rules.blocks state ≡ true

@@ -1,8 +1,8 @@
 //! The end of a cycle.
 ghost use Rattle.std.specs.Prelude.{◌≡◌, Some};
 ghost use Rattle.guards_nodes.specs.NodeCalls.{DoesClose};
-ghost use Rattle.node_rounds.specs.Closing.{closed_value};
-ghost use Rattle.channel_node.specs.Answers.{HasDecision};
+ghost use Rattle.channel_node.specs.Closing.{closed_value};
+ghost use Rattle.channel_node.specs.Answers.{HasDecidedState};
 
 use crate::node::{Node, State};
 use control_state::Closed;
@@ -12,7 +12,7 @@ impl Node {
     /// Closes a cycle: the control is that of the next cycle, and what was heard is for its source word.
     pub fn close_cycle(&mut self, mission: &Mission, cycle: u32) -> Closed
         requires rules { mission.now.rules ≡ self.old.rules }
-        requires decided { HasDecision self.old.state }
+        requires decided { HasDecidedState self.old.state }
         ensures { DoesClose mission.now cycle self.old self.new (closed_value result) }
     {
         let written = mission.table().distinct_blocks(cycle);

@@ -5,8 +5,8 @@ ghost use Rattle.guards_nodes.specs.NodeStates.{running, fallen, resting, return
 ghost use Rattle.guards_nodes.specs.NodeSteps.{with_damage, new_joiner, risen};
 ghost use Rattle.guards_nodes.specs.NodeCalls.{in_state, changed};
 
+use crate::joiner::Joining;
 use crate::node::{Node, State};
-use node_rounds::Joining;
 use std::alloc::{AllocError, Global};
 use std::mem;
 

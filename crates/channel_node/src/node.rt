@@ -3,14 +3,15 @@ ghost use Rattle.std.specs.Prelude.{◌≡◌, ◌<◌, IfOk, option_map};
 ghost use Rattle.std.specs.Option.{option_copied};
 ghost use Rattle.guards_nodes.specs.NodeStates.{running_or_none, joiner_or_none};
 ghost use Rattle.guards_nodes.specs.NodeCalls.{first_node};
-ghost use Rattle.channel_node.specs.Answers.{mode_of};
+ghost use Rattle.channel_node.specs.Answers.{mode_of_state};
 
+use crate::joiner::Joining;
+use crate::running::Running;
 use context_blocks::Context;
 use control_state::Control;
 use guards_base::{Chan, Mode, Rules};
 use join_vote::Replica;
 use mission_type::Mission;
-use node_rounds::{Joining, Running};
 use std::alloc::{AllocError, Global};
 use std::marker::Model;
 
@@ -41,11 +42,11 @@ impl Model for Node {
     ghost Value = { NodeValue };
 
     ghost use Rattle.channel_node.specs.Views.{state_value};
-    ghost use Rattle.channel_node.specs.Sound.{IsSound};
+    ghost use Rattle.channel_node.specs.Sound.{IsNodeInRange};
 
     ghost view = { λ n. record { channel = n.channel; rules = n.rules; state = state_value n.state } };
 
-    ghost invariant = { λ n. IsSound n.channel n.rules (state_value n.state) };
+    ghost invariant = { λ n. IsNodeInRange n.channel n.rules (state_value n.state) };
 }
 
 impl Node {
@@ -54,8 +55,8 @@ impl Node {
         requires { channel < mission.now.rules.channels }
         ensures { IfOk result (λ node. node ≡ first_node mission.now channel) }
     {
-        mission.is_mission();
-        mission.know_sizes();
+        mission.prove_mission();
+        mission.prove_sizes();
         let context = mission.start(alloc)?;
         Ok(Node {
             channel,
@@ -73,7 +74,7 @@ impl Node {
 
     /// Its mode.
     pub fn mode(&self) -> Mode
-        ensures { result ≡ mode_of self.now.state }
+        ensures { result ≡ mode_of_state self.now.state }
     {
         match &self.state {
             State::Up(_) => Mode::Up,

@@ -7,7 +7,7 @@ ghost use Rattle.guards_model.specs.Missions.{sensor};
 ghost use Rattle.guards_nodes.specs.NodeStates.{running, RunningValue, ExchangeTreeValue};
 ghost use Rattle.guards_nodes.specs.NodeSteps.{Received, tree_for, agreed_from, after_request, after_source, IsDecision};
 ghost use Rattle.guards_nodes.specs.NodeCalls.{changed, IsRunning, HasReceived, HasDecided};
-ghost use Rattle.oral_messages.specs.Received.{IsInRange, items_in};
+ghost use Rattle.oral_messages.specs.Received.{IsExchangeInRange, items_of_frame};
 ghost use Rattle.channel_node.specs.Answers.{HasTree};
 
 use crate::node::{Node, State};
@@ -23,8 +23,8 @@ fn sensor_words(mission: &Mission, me: Chan, cycle: u32) -> [i64; 4]
     ensures padded { IsPadded 4 mission.now.width result }
     ensures used { take mission.now.width result ≡ sensor mission.now me cycle }
 {
-    mission.is_mission();
-    mission.know_sizes();
+    mission.prove_mission();
+    mission.prove_sizes();
     mission.sensor(me, cycle)
 }
 
@@ -62,8 +62,8 @@ impl Node {
         requires low { 1 ≤ round }
         requires high { (r : RunningValue) (t : ExchangeTreeValue) → self.old.state ≡ running r → r.tree ≡ Some t →
             round ≤ tolerated_faults t.active + 1 }
-        requires ranges { IsInRange (option_copied frame) round from }
-        ensures { HasReceived round from (items_in (option_copied frame.entry)) self.old self.new }
+        requires ranges { IsExchangeInRange (option_copied frame) round from }
+        ensures { HasReceived round from (items_of_frame (option_copied frame.entry)) self.old self.new }
     {
         let State::Up(running) = &mut self.state else {
             return;

@@ -4,8 +4,8 @@ ghost use Rattle.guards_model.specs.Records.{shown_line};
 ghost use Rattle.guards_nodes.specs.NodeStates.{running, RunningValue, DecidedValue};
 ghost use Rattle.guards_nodes.specs.NodeSteps.{after_votes, line_by};
 ghost use Rattle.guards_nodes.specs.NodeCalls.{changed};
-ghost use Rattle.node_rounds.specs.Lines.{whole_line};
-ghost use Rattle.channel_node.specs.Answers.{HasDecision};
+ghost use Rattle.guards_nodes.specs.WholeLines.{whole_line};
+ghost use Rattle.channel_node.specs.Answers.{HasDecidedState};
 
 use crate::node::{Node, State};
 use guards_base::{Ballot, ChannelLine};
@@ -16,7 +16,7 @@ impl Node {
     /// them for its next source word; and answers the channel's line of the report.
     pub fn take_votes(&mut self, mission: &Mission, ballots: &[Option<Ballot>; 7]) -> ChannelLine
         requires rules { mission.now.rules ≡ self.old.rules }
-        requires decided { HasDecision self.old.state }
+        requires decided { HasDecidedState self.old.state }
         ensures state { self.new ≡ changed (after_votes self.old.channel mission.now.outputs ballots.now) self.old }
         ensures line { (r : RunningValue) (d : DecidedValue) → self.old.state ≡ running r → r.decided ≡ Some d →
             result ≡ whole_line self.old.channel mission.now.outputs r d ballots.now }

@@ -4,7 +4,7 @@ ghost use Rattle.std.specs.Option.{option_copied};
 ghost use Rattle.guards_nodes.specs.NodeStates.{running_or_none};
 ghost use Rattle.guards_nodes.specs.NodeCalls.{DoesWork};
 ghost use Rattle.sweep_round.specs.Trails.{trail_cycle, trail_steps};
-ghost use Rattle.channel_node.specs.Answers.{HasDecision};
+ghost use Rattle.channel_node.specs.Answers.{HasDecidedState};
 
 use crate::node::{Node, State};
 use ctx_lock::Gate;
@@ -43,7 +43,7 @@ impl Node {
         natives: &C,
     ) -> Result<(), AllocError>
         requires rules { mission.now.rules ≡ self.old.rules }
-        requires decided { HasDecision self.old.state }
+        requires decided { HasDecidedState self.old.state }
         ensures worked { OnOk result (DoesWork mission.now cycle self.old self.new) }
         ensures refused { OnErr result (self.new ≡ self.old) }
     {

@@ -25,7 +25,7 @@ fn join_bound(blocks: u16, sweep: u16, last: u16, writes: u16) -> Option<u32>
 pub fn head_text(alloc: Global, mission: &Mission) -> Result<Text, AllocError>
     ensures { IfOk result (λ text. text ≡ head_text mission.now) }
 {
-    mission.know_sizes();
+    mission.prove_sizes();
     let rules = mission.rules();
     let channels = rules.channels;
     let writes = mission.table().most_blocks();

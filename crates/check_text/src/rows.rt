@@ -1,7 +1,7 @@
 //! The lines of the table's expressions.
 ghost use Rattle.std.specs.Prelude.{◌≡◌, ◌<◌, ◌++◌, length, map, option_map, IfOk, OnOk};
 ghost use Rattle.expr_core.specs.Tree.{tree};
-ghost use Rattle.task_table.specs.Tables.{row_at};
+ghost use Rattle.task_table.specs.Tables.{tasks_in_row};
 ghost use Rattle.check_text.specs.Check.{texts_from, word_text, write_text, task_text, row_text};
 
 use expr_core::Expr;
@@ -77,7 +77,7 @@ fn push_task(alloc: Global, text: &mut Text, row: u16, task: &Task) -> Result<()
 /// The lines of a row.
 pub fn row_text(alloc: Global, table: &Table, row: u16) -> Result<Text, AllocError>
     requires { row < length table.now.rows }
-    ensures { IfOk result (λ text. text ≡ row_text row (row_at table.now.rows row)) }
+    ensures { IfOk result (λ text. text ≡ row_text row (tasks_in_row table.now.rows row)) }
 {
     let mut text = Text::new(alloc);
     for place in 0..table.row_len(row) {

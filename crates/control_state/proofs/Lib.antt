@@ -1,6 +1,6 @@
 pub mod SevenFlags
-pub mod Told
-pub mod Ranges
+pub mod WordsCounted
+pub mod RulesInRange
 pub mod Cycles
 pub mod Decides
-pub mod Closes
+pub mod ControlClosed

@@ -67,7 +67,7 @@ fn rest(transfer: &Option<Transfer>, joined: ChanSet, last: u8) -> Plan
 }
 
 // The start of the transfer whose targets joined.
-fn start(transfer: &Option<Transfer>, joined: ChanSet) -> u32
+fn start_if_joined(transfer: &Option<Transfer>, joined: ChanSet) -> u32
     ensures { result ≡ start_if_joined joined transfer.now }
 {
     match transfer {
@@ -108,7 +108,7 @@ impl Control {
         let joined = joined(&self.transfer, rules.last);
         let closed = Closed {
             joined,
-            start: start(&self.transfer, joined),
+            start: start_if_joined(&self.transfer, joined),
             remaining: remaining(&self.transfer),
             rest: rest(&self.transfer, joined, rules.last),
         };

@@ -6,8 +6,10 @@ mod plays;
 mod shared;
 mod turned;
 mod view;
+mod workers;
 
 pub use gate::{Gate, OpenGate};
 pub use guards_model::Actor;
 pub use shared::{Closed, Pass, Shared};
 pub use turned::Turned;
+pub use workers::{both, in_turn, pair, work};

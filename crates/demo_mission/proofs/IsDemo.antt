@@ -11,7 +11,7 @@ use Rattle.guards_model.specs.declared.Slot.{Slot}
 use Rattle.guards_model.specs.declared.Slot.TheVariants.{Request, Vote}
 use Rattle.guards_model.specs.BusRules.{RuleValue, lose}
 use Rattle.guards_model.specs.Faults.{crash, restart, bus}
-use Rattle.guards_model.specs.Missions.{IsMission, bus_rule, bus_rules, is_write, is_task, is_receiver, is_fault, is_context, within}
+use Rattle.guards_model.specs.Missions.{IsMission, bus_rule, bus_rules, is_write, is_task_in_range, is_receiver, is_fault, is_context, within}
 use Rattle.guards_model.proofs.BoolTests.{both, and_true}
 use Rattle.guards_model.proofs.ListTests.{place_passes}
 use Rattle.demo_mission.specs.Demo.{next_number, drawn, draws, number_after, sensor_words, in_pairs, sensor_rows, demo_write, demo_task, demo_tasks, demo_script, first_block, demo_mission}
@@ -40,16 +40,16 @@ writes : (block : ℕ) → nat_lt block 128 ≡ true → is_write 128 2 (demo_wr
 unfolding is_word
 writes block below = rw below refl
 
-task_is : (n x : ℕ) → is_task 128 2 (demo_task n x) ≡ true
+task_is : (n x : ℕ) → is_task_in_range 128 2 (demo_task n x) ≡ true
 unfolding demo_task draws
 task_is n x = all_mapped (λ d. nat_lt d 128) (is_write 128 2) demo_write (draws 4 128 x) writes (draws_below 4 128 x (omega arith))
 
-rows_are : (count n x : ℕ) → list_all (λ row. nat_le (length row) 16 && list_all (is_task 128 2) row) (map (λ task. task ∷ []) (demo_tasks count n x)) ≡ true
+rows_are : (count n x : ℕ) → list_all (λ row. nat_le (length row) 16 && list_all (is_task_in_range 128 2) row) (map (λ task. task ∷ []) (demo_tasks count n x)) ≡ true
 unfolding demo_tasks
 rows_are zero n x = refl
 rows_are (suc count) n x =
-    and_true (is_task 128 2 (demo_task n x) && true) (list_all (λ row. nat_le (length row) 16 && list_all (is_task 128 2) row) (map (λ task. task ∷ []) (demo_tasks count (n + 1) (number_after 4 x))))
-    (and_true (is_task 128 2 (demo_task n x)) true (task_is n x) refl)
+    and_true (is_task_in_range 128 2 (demo_task n x) && true) (list_all (λ row. nat_le (length row) 16 && list_all (is_task_in_range 128 2) row) (map (λ task. task ∷ []) (demo_tasks count (n + 1) (number_after 4 x))))
+    (and_true (is_task_in_range 128 2 (demo_task n x)) true (task_is n x) refl)
     (rows_are count (n + 1) (number_after 4 x))
 
 -- ---- sensors

@@ -1,3 +1,3 @@
 pub mod IsDemo
 pub mod Drawn
-pub mod Parts
+pub mod DemoParts

@@ -11,7 +11,7 @@ use Rattle.expr_core.specs.Size.{node_count}
 use Rattle.expr_text.specs.declared.state.Sizes.{Sizes}
 use Rattle.expr_text.specs.declared.word.Function.{Function}
 use Rattle.expr_text.specs.declared.word.Function.TheVariants as called
-use Rattle.expr_text.specs.Grammar.{Sum, product, sum_and, Product, factor, product_and, Factor, atom, minus, Atom, number_token, cycle_token, input_token, word_token, group, call_form, spaces, sign, letters, sum_text, factor_text, atom_text, sum_tree, product_tree, factor_tree, atom_tree, called_with, SumIn, ProductIn, FactorIn, AtomIn, Spells}
+use Rattle.expr_text.specs.Grammar.{Sum, product, sum_and, Product, factor, product_and, Factor, atom, minus, Atom, number_token, cycle_token, input_token, word_token, group, call_form, spaces, sign, letters, sum_text, factor_text, atom_text, sum_tree, product_tree, factor_tree, atom_tree, called_with, SumIn, ProductIn, FactorIn, AtomIn, SpellsExpression}
 use Rattle.expr_text.specs.Parsing.{IsRead}
 use Rattle.expr_text.specs.Printing.{call_text, canonical}
 
@@ -79,7 +79,7 @@ module _ (sizes : Sizes) (few_blocks : sizes.blocks ≤ 256) where
     atom_in (group gap s end_gap) h = sum_in s h
     atom_in (call_form gap f open_gap a first_gap b second_gap c end_gap) h = called_in f (sum_tree a) (sum_tree b) (sum_tree c) (sum_in a h.0) (sum_in b h.1) (sum_in c h.2)
 
-  pub read_in : (text : List ℕ) (e : Expression) → Spells sizes text e → TreeIn e
+  pub read_in : (text : List ℕ) (e : Expression) → SpellsExpression sizes text e → TreeIn e
   read_in text e h = subst TreeIn h.tree_is (sum_in h.sum h.valid)
 
   joined_valid : (op : Op) (a b : Factor) → FactorIn sizes a → FactorIn sizes b → SumIn sizes (joined_by op a b)
@@ -146,7 +146,7 @@ module _ (sizes : Sizes) (few_blocks : sizes.blocks ≤ 256) where
   written_text gap (call code a b c) h = call_written gap (called.Native code) (written 0 a) (written 1 b) (written 1 c) (canonical a) (canonical b) (canonical c) (written_text 0 a h.0) (written_text 1 b h.1) (written_text 1 c h.2)
   written_text gap (pick a b c) h = call_written gap called.Pick (written 0 a) (written 1 b) (written 1 c) (canonical a) (canonical b) (canonical c) (written_text 0 a h.0) (written_text 1 b h.1) (written_text 1 c h.2)
 
-  pub canonical_spells : (e : Expression) → TreeIn e → Spells sizes (canonical e) e
+  pub canonical_spells : (e : Expression) → TreeIn e → SpellsExpression sizes (canonical e) e
   canonical_spells e h = record {
     sum = alone (written 0 e);
     valid = written_valid 0 e h;

@@ -10,8 +10,8 @@ use Rattle.guards_model.specs.Expressions.{Expression, input, block_word, binary
 use Rattle.expr_text.specs.declared.state.Sizes.{Sizes}
 use Rattle.expr_text.specs.declared.word.Function.{Function}
 use Rattle.expr_text.specs.declared.word.Function.TheVariants as called
-use Rattle.expr_text.specs.Grammar.{Sum, product, sum_and, Product, factor, product_and, Factor, atom, minus, Atom, number_token, cycle_token, input_token, word_token, group, call_form, spaces, sign, letters, sum_text, product_text, factor_text, atom_text, sum_tree, product_tree, factor_tree, atom_tree, SumIn, ProductIn, FactorIn, AtomIn, IsSumSign, IsProductSign, Spells}
-use Rattle.expr_text.specs.Reading.{Pending, Level, Frame, State, Operand, Operator, Start, Digits, InputDigit, BlockStart, BlockDigits, WordDigit, Parenthesis, Group, First, Second, Third, fresh, initial, joined, completed, opened, after, run, read, and_then, finished, with_number, longer}
+use Rattle.expr_text.specs.Grammar.{Sum, product, sum_and, Product, factor, product_and, Factor, atom, minus, Atom, number_token, cycle_token, input_token, word_token, group, call_form, spaces, sign, letters, sum_text, product_text, factor_text, atom_text, sum_tree, product_tree, factor_tree, atom_tree, SumIn, ProductIn, FactorIn, AtomIn, IsSumSign, IsProductSign, SpellsExpression}
+use Rattle.expr_text.specs.Reading.{Pending, Level, Frame, State, Operand, Operator, Start, Digits, InputDigit, BlockStart, BlockDigits, WordDigit, Parenthesis, Group, First, Second, Third, fresh, initial, joined, completed, opened, after, run, read, and_then, finished, with_number, with_digit}
 use Rattle.expr_text.proofs.Runs.{kind_digit, IsNoDigit, EndsNumber, start_spaces, end_spaces, name_spaces, number_ended, ends_behind, ends_at, ReadsNumber, number_read}
 
 module _ (sizes : Sizes) (few_blocks : sizes.blocks ≤ 256) where
@@ -72,7 +72,7 @@ module _ (sizes : Sizes) (few_blocks : sizes.blocks ≤ 256) where
   product_signed Rem h rest frames sum left = refl
 
   -- an argument, or what stands in parentheses, up to the byte behind it
-  part_read : (s : Sum) (frames : List Frame) (r : SumRead s frames) (gap c : ℕ) (rest : List ℕ) → IsNoDigit (Rattle.expr_text.specs.Reading.kind c) → read sizes (sum_text s ++ (spaces gap ++ c ∷ rest)) (Operand frames fresh Start) ≡ read sizes (c ∷ rest) (Operator frames r.sum r.product)
+  part_read : (s : Sum) (frames : List Frame) (r : SumRead s frames) (gap c : ℕ) (rest : List ℕ) → IsNoDigit (Rattle.expr_text.specs.Reading.byte_kind c) → read sizes (sum_text s ++ (spaces gap ++ c ∷ rest)) (Operand frames fresh Start) ≡ read sizes (c ∷ rest) (Operator frames r.sum r.product)
   part_read s frames r gap c rest h =
       r.reads (spaces gap ++ c ∷ rest) (ends_at sizes gap c rest h)
       ∙ ap (and_then finished) (end_spaces sizes gap (c ∷ rest) frames r.sum r.product)
@@ -160,7 +160,7 @@ module _ (sizes : Sizes) (few_blocks : sizes.blocks ≤ 256) where
         ∙ ap (λ t. read sizes rest (completed frames level t)) (cc (x.tree_is, y.tree_is, z.tree_is))
 
   -- what a text of the grammar stands for is what is read
-  pub complete : (text : List ℕ) (e : Expression) → Spells sizes text e → read sizes text initial ≡ Some e
+  pub complete : (text : List ℕ) (e : Expression) → SpellsExpression sizes text e → read sizes text initial ≡ Some e
   complete text e h =
       let r = sum_read h.sum h.valid [] in
       ap (λ t. read sizes t initial) (h.text_is)
@@ -174,5 +174,5 @@ module _ (sizes : Sizes) (few_blocks : sizes.blocks ≤ 256) where
       ends_spaces (suc n) = tt
 
   -- one text, one expression
-  pub unambiguous : (text : List ℕ) (d e : Expression) → Spells sizes text d → Spells sizes text e → d ≡ e
+  pub unambiguous : (text : List ℕ) (d e : Expression) → SpellsExpression sizes text d → SpellsExpression sizes text e → d ≡ e
   unambiguous text d e g h = let both : Some d ≡ Some e = sym (complete text d g) ∙ complete text e h in cc

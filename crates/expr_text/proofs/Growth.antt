@@ -11,9 +11,9 @@ use Rattle.expr_text.specs.declared.word.Keyword.{Keyword}
 use Rattle.expr_text.specs.declared.word.Keyword.TheVariants as keyword
 use Rattle.expr_text.specs.declared.word.Kind.{Kind}
 use Rattle.expr_text.specs.declared.word.Kind.TheVariants.{Space, Sign, Open, Close, Comma, Dot, Digit, Letter, Other}
-use Rattle.expr_text.specs.Grammar.{Sum, product, sum_and, Product, factor, product_and, Factor, atom, minus, Atom, number_token, cycle_token, input_token, word_token, group, call_form, spaces, sum_text, product_text, factor_text, atom_text, sum_tree, product_tree, factor_tree, atom_tree, called_with, SumIn, ProductIn, FactorIn, AtomIn, Spells}
+use Rattle.expr_text.specs.Grammar.{Sum, product, sum_and, Product, factor, product_and, Factor, atom, minus, Atom, number_token, cycle_token, input_token, word_token, group, call_form, spaces, sum_text, product_text, factor_text, atom_text, sum_tree, product_tree, factor_tree, atom_tree, called_with, SumIn, ProductIn, FactorIn, AtomIn, SpellsExpression}
 use Rattle.expr_text.specs.Names.{other_letters}
-use Rattle.expr_text.specs.Reading.{Pending, Level, Frame, Opening, State, Operand, Operator, Start, Digits, Letters, InputDigit, BlockStart, BlockDigits, WordDigit, Parenthesis, Group, First, Second, Third, factored, joined, spelled, keyword_at, begun, at_start, at_end, closed, closed_at, next_at, next_argument, after, kind, run, and_then, minuses_of}
+use Rattle.expr_text.specs.Reading.{Pending, Level, Frame, Opening, State, Operand, Operator, Start, Digits, Letters, InputDigit, BlockStart, BlockDigits, WordDigit, Parenthesis, Group, First, Second, Third, factored, joined, keyword_spelled, keyword_at, begun, at_start, at_end, closed, closed_at, next_at, next_argument, after, byte_kind, run, and_then, minuses_of}
 use Rattle.expr_text.proofs.Bytes.{cond_by}
 use Rattle.expr_text.proofs.Sound.{with_number_by}
 
@@ -44,7 +44,7 @@ module _ (sizes : Sizes) (few_blocks : sizes.blocks ≤ 256) where
     atom_nodes (call_form gap f open_gap a first_gap b second_gap c end_gap) h =
         simp (length-append, called_nodes) (omega (arith, sum_nodes a h.0, sum_nodes b h.1, sum_nodes c h.2))
 
-  pub nodes_within : (text : List ℕ) (e : Expression) → Spells sizes text e → node_count e ≤ length text
+  pub nodes_within : (text : List ℕ) (e : Expression) → SpellsExpression sizes text e → node_count e ≤ length text
   nodes_within text e h =
       let all : length text ≡ length (sum_text h.sum) + length (spaces h.end_gap) = ap length h.text_is ∙ length-append (sum_text h.sum) (spaces h.end_gap) in
       let same : node_count (sum_tree h.sum) ≡ node_count e = ap node_count h.tree_is in
@@ -56,7 +56,7 @@ module _ (sizes : Sizes) (few_blocks : sizes.blocks ≤ 256) where
   Within n None = Unit {0}
   Within n (Some s) = minuses_of s ≤ n
 
-  spelled_minuses : (frames : List Frame) (level : Level) (k : Keyword) (rest : List ℕ) (n : ℕ) → level.minuses ≤ n → minuses_of (spelled frames level k rest) ≤ n
+  spelled_minuses : (frames : List Frame) (level : Level) (k : Keyword) (rest : List ℕ) (n : ℕ) → level.minuses ≤ n → minuses_of (keyword_spelled frames level k rest) ≤ n
   spelled_minuses frames level keyword.Cycle [] n h = omega arith
   spelled_minuses frames level keyword.Input [] n h = h
   spelled_minuses frames level keyword.Block [] n h = h
@@ -150,7 +150,7 @@ module _ (sizes : Sizes) (few_blocks : sizes.blocks ≤ 256) where
 
   pub run_minuses : (bytes : List ℕ) (s : State) → Within (minuses_of s + length bytes) (run sizes bytes s)
   run_minuses [] s = omega arith
-  run_minuses (byte ∷ bytes) s = go (run_minuses bytes) (after sizes s (kind byte)) (after_minuses s (kind byte))
+  run_minuses (byte ∷ bytes) s = go (run_minuses bytes) (after sizes s (byte_kind byte)) (after_minuses s (byte_kind byte))
     where
       go : ((t : State) → Within (minuses_of t + length bytes) (run sizes bytes t)) → (o : Option State) → Within (suc (minuses_of s)) o → Within (minuses_of s + length (byte ∷ bytes)) (and_then (run sizes bytes) o)
       go ih None w = tt

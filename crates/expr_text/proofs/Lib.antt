@@ -7,7 +7,7 @@ pub mod Viable
 pub mod Stack
 pub mod Verdicts
 pub mod Parsed
-pub mod Fitting
+pub mod NamedInExpressions
 pub mod Growth
 pub mod Scan
 pub mod Canonical

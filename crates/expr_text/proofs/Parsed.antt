@@ -9,10 +9,10 @@ use Rattle.expr_core.specs.Tree.{tree}
 use Rattle.expr_text.specs.declared.fault.ExprFault.{ExprFault}
 use Rattle.expr_text.specs.declared.fault.ExprFault.TheVariants.{TooLong, Grammar, TooLarge, Memory}
 use Rattle.expr_text.specs.declared.state.Sizes.{Sizes}
-use Rattle.expr_text.specs.Grammar.{Spells}
-use Rattle.expr_text.specs.Reading.{State, initial, after, kind, finished, run}
+use Rattle.expr_text.specs.Grammar.{SpellsExpression}
+use Rattle.expr_text.specs.Reading.{State, initial, after, byte_kind, finished, run}
 use Rattle.expr_text.specs.Parsing.{IsSmall, IsLarge, IsRefusedAt, IsTooLarge, IsRead, Explains, Parses, IsFault}
-use Rattle.expr_text.specs.Parsed.{ended, gone_on, read_from, sized, parsed, IsAnswerOf}
+use Rattle.expr_text.specs.Parsed.{ended, gone_on, read_from, within_size, parsed, IsAnswerOf}
 use Rattle.expr_text.proofs.Complete.{unambiguous}
 use Rattle.expr_text.proofs.Scan.{run_step, refused_here, refused_at_end, spelled_at_end}
 use Rattle.expr_text.proofs.Verdicts.{clash, of_too_long, of_refused, of_too_large}
@@ -20,7 +20,7 @@ use Rattle.expr_text.proofs.Verdicts.{clash, of_too_long, of_refused, of_too_lar
 module _ (sizes : Sizes) (few_blocks : sizes.blocks ≤ 256) (text : List ℕ) where
   -- what reading says of the text
   abbrev ReadSays : Result Expression ExprFault → Type 0
-  ReadSays (Ok e) = Spells sizes text e
+  ReadSays (Ok e) = SpellsExpression sizes text e
   ReadSays (Err TooLong) = ⊥
   ReadSays (Err (Grammar at)) = IsRefusedAt sizes text at
   ReadSays (Err (TooLarge n d)) = ⊥
@@ -41,8 +41,8 @@ module _ (sizes : Sizes) (few_blocks : sizes.blocks ≤ 256) (text : List ℕ) w
     -- what comes of the next byte, if what comes behind it is known
     read_on : (byte : ℕ) (bytes : List ℕ) (at : ℕ) (s : State) → drop at text ≡ byte ∷ bytes → at + length (byte ∷ bytes) ≡ length text → run sizes (take at text) initial ≡ Some s →
         ((next : State) → drop (at + 1) text ≡ bytes → run sizes (take (at + 1) text) initial ≡ Some next → ReadSays (read_from sizes bytes (at + 1) next)) →
-        ReadSays (gone_on at (read_from sizes bytes (at + 1)) (after sizes s (kind byte)))
-    read_on byte bytes at s rest size before further = by (after sizes s (kind byte)) refl
+        ReadSays (gone_on at (read_from sizes bytes (at + 1)) (after sizes s (byte_kind byte)))
+    read_on byte bytes at s rest size before further = by (after sizes s (byte_kind byte)) refl
       where
         here : at < length text
         here = omega (arith, size)
@@ -66,10 +66,10 @@ module _ (sizes : Sizes) (few_blocks : sizes.blocks ≤ 256) (text : List ℕ) w
         behind : drop (at + 1) text ≡ bytes
         behind = ap (λ n. drop n text) next_place ∙ drop_one text at ∙ ap (drop 1) rest
 
-        by : (o : Option State) → after sizes s (kind byte) ≡ o → ReadSays (gone_on at (read_from sizes bytes (at + 1)) o)
-        by None e = refused_here sizes few_blocks text at s short here before (sym e ∙ ap (λ b. after sizes s (kind b)) (sym this))
+        by : (o : Option State) → after sizes s (byte_kind byte) ≡ o → ReadSays (gone_on at (read_from sizes bytes (at + 1)) o)
+        by None e = refused_here sizes few_blocks text at s short here before (sym e ∙ ap (λ b. after sizes s (byte_kind b)) (sym this))
         by (Some next) e =
-            further next behind (run_step sizes text at s (Some next) here before (sym e ∙ ap (λ b. after sizes s (kind b)) (sym this)))
+            further next behind (run_step sizes text at s (Some next) here before (sym e ∙ ap (λ b. after sizes s (byte_kind b)) (sym this)))
 
     whole_text : (at : ℕ) → at ≡ length text → take at text ≡ text
     whole_text at e = ap (λ n. take n text) e ∙ taken text
@@ -95,7 +95,7 @@ module _ (sizes : Sizes) (few_blocks : sizes.blocks ≤ 256) (text : List ℕ) w
     small_by n d true false f g h = absurd cc
     small_by n d false b f g h = absurd cc
 
-    sized_says : (r : Result Expression ExprFault) → ReadSays r → Says (sized r)
+    sized_says : (r : Result Expression ExprFault) → ReadSays r → Says (within_size r)
     sized_says (Ok e) spelled = by (nat_le (node_count e) 64 && nat_le (tree_depth e) 16) refl
       where
         by : (small : Bool) → (nat_le (node_count e) 64 && nat_le (tree_depth e) 16) ≡ small → Says (cond small (Ok e) (Err (TooLarge (node_count e) (tree_depth e))))
@@ -110,7 +110,7 @@ module _ (sizes : Sizes) (few_blocks : sizes.blocks ≤ 256) (text : List ℕ) w
   unfolding parsed
   parsed_says = by (nat_lt 1100 (length text)) refl
     where
-      by : (long : Bool) → nat_lt 1100 (length text) ≡ long → Says (cond long (Err TooLong) (sized (read_from sizes text 0 initial)))
+      by : (long : Bool) → nat_lt 1100 (length text) ≡ long → Says (cond long (Err TooLong) (within_size (read_from sizes text 0 initial)))
       by true h = leb-true 1101 (length text) h
       by false h =
           let short : length text ≤ 1100 = grind (arith, h) in

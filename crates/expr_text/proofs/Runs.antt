@@ -11,17 +11,17 @@ use Rattle.expr_text.specs.declared.word.Function.{Function}
 use Rattle.expr_text.specs.declared.word.Kind.{Kind}
 use Rattle.expr_text.specs.declared.word.Kind.TheVariants.{Space, Sign, Open, Close, Comma, Dot, Digit, Letter, Other}
 use Rattle.expr_text.specs.Grammar.{spaces, sign}
-use Rattle.expr_text.specs.Reading.{Pending, Level, Frame, State, Operand, Operator, Start, Digits, Parenthesis, completed, after, kind, run, read, and_then, longer, with_number, in_digits, at_end, factored, finished}
+use Rattle.expr_text.specs.Reading.{Pending, Level, Frame, State, Operand, Operator, Start, Digits, Parenthesis, completed, after, byte_kind, run, read, and_then, with_digit, with_number, in_digits, at_end, factored, finished}
 
 pub run-append : (sizes : Sizes) (a b : List ℕ) (s : State) → run sizes (a ++ b) s ≡ and_then (run sizes b) (run sizes a s)
 run-append sizes [] b s = refl
-run-append sizes (c ∷ cs) b s = go (run-append sizes cs b) (after sizes s (kind c))
+run-append sizes (c ∷ cs) b s = go (run-append sizes cs b) (after sizes s (byte_kind c))
   where
     go : ((t : State) → run sizes (cs ++ b) t ≡ and_then (run sizes b) (run sizes cs t)) → (o : Option State) → and_then (run sizes (cs ++ b)) o ≡ and_then (run sizes b) (and_then (run sizes cs) o)
     go ih None = refl
     go ih (Some t) = ih t
 
-pub kind_digit : (d : ℕ) → d < 10 → kind (48 + d) ≡ Digit d
+pub kind_digit : (d : ℕ) → d < 10 → byte_kind (48 + d) ≡ Digit d
 kind_digit zero h = refl
 kind_digit (suc zero) h = refl
 kind_digit (suc (suc zero)) h = refl
@@ -41,7 +41,7 @@ IsNoDigit _ = Unit {0}
 
 abbrev pub EndsNumber : List ℕ → Type 0
 EndsNumber [] = Unit {0}
-EndsNumber (c ∷ cs) = IsNoDigit (kind c)
+EndsNumber (c ∷ cs) = IsNoDigit (byte_kind c)
 
 module _ (sizes : Sizes) where
   pub start_spaces : (n : ℕ) (rest : List ℕ) (frames : List Frame) (level : Level) → run sizes (spaces n ++ rest) (Operand frames level Start) ≡ run sizes rest (Operand frames level Start)
@@ -70,7 +70,7 @@ module _ (sizes : Sizes) where
 
   pub number_ended : (frames : List Frame) (level : Level) (n : ℕ) (rest : List ℕ) → EndsNumber rest → read sizes rest (Operand frames level (Digits n)) ≡ read sizes rest (completed frames level (number (pos n)))
   number_ended frames level n [] h = refl
-  number_ended frames level n (c ∷ cs) h = ap (λ o. and_then finished (and_then (run sizes cs) o)) (at_no_digit frames level n (kind c) h)
+  number_ended frames level n (c ∷ cs) h = ap (λ o. and_then finished (and_then (run sizes cs) o)) (at_no_digit frames level n (byte_kind c) h)
 
   pub ends_behind : (gap : ℕ) (op : Op) (rest : List ℕ) → EndsNumber (spaces gap ++ sign op ∷ rest)
   ends_behind zero Add rest = tt
@@ -80,18 +80,18 @@ module _ (sizes : Sizes) where
   ends_behind zero Rem rest = tt
   ends_behind (suc gap) op rest = tt
 
-  pub ends_at : (gap c : ℕ) (rest : List ℕ) → IsNoDigit (kind c) → EndsNumber (spaces gap ++ c ∷ rest)
+  pub ends_at : (gap c : ℕ) (rest : List ℕ) → IsNoDigit (byte_kind c) → EndsNumber (spaces gap ++ c ∷ rest)
   ends_at zero c rest h = h
   ends_at (suc gap) c rest h = tt
 
-  longer_is : (limit n d : ℕ) → 0 < n → n * 10 + d < limit → longer limit n d ≡ Some (n * 10 + d)
+  longer_is : (limit n d : ℕ) → 0 < n → n * 10 + d < limit → with_digit limit n d ≡ Some (n * 10 + d)
   longer_is limit zero d h lt = absurd (omega arith)
   longer_is limit (suc n) d h lt = rw (lt-ltb (suc n * 10 + d) limit lt) refl
 
   -- a lexeme that reads a number: from its start, and digit by digit
   pub record ReadsNumber (limit : ℕ) (start : State) (go : ℕ → State) : Type 0 where
     pub first : (d : ℕ) → d < 10 → d < limit → after sizes start (Digit d) ≡ Some (go d)
-    pub more : (n d : ℕ) → after sizes (go n) (Digit d) ≡ with_number go (longer limit n d)
+    pub more : (n d : ℕ) → after sizes (go n) (Digit d) ≡ with_number go (with_digit limit n d)
 
   module _ (limit : ℕ) (start : State) (go : ℕ → State) (reads : ReadsNumber limit start go) where
     abbrev Reaches : ℕ → List ℕ → Type 0

@@ -4,8 +4,8 @@ use Rattle.std.proofs.lemmas.List.{take_more, length-take, take-append-drop}
 use Rattle.std.proofs.Math.Seq.{drop-cons}
 use Rattle.guards_model.specs.Expressions.{Expression}
 use Rattle.expr_text.specs.declared.state.Sizes.{Sizes}
-use Rattle.expr_text.specs.Grammar.{Spells, IsInGrammar, IsLongestViable}
-use Rattle.expr_text.specs.Reading.{State, initial, after, kind, run, and_then, finished, minuses_of}
+use Rattle.expr_text.specs.Grammar.{SpellsExpression, IsInGrammar, IsLongestViable}
+use Rattle.expr_text.specs.Reading.{State, initial, after, byte_kind, run, and_then, finished, minuses_of}
 use Rattle.expr_text.specs.Parsing.{IsRefusedAt}
 use Rattle.expr_text.proofs.Runs.{run-append}
 use Rattle.expr_text.proofs.Sound.{sound}
@@ -14,7 +14,7 @@ use Rattle.expr_text.proofs.Growth.{Within, run_minuses}
 
 module _ (sizes : Sizes) where
   -- one more byte
-  pub run_step : (text : List ℕ) (at : ℕ) (s : State) (o : Option State) → at < length text → run sizes (take at text) initial ≡ Some s → o ≡ after sizes s (kind (get_or text at 0)) → run sizes (take (at + 1) text) initial ≡ o
+  pub run_step : (text : List ℕ) (at : ℕ) (s : State) (o : Option State) → at < length text → run sizes (take at text) initial ≡ Some s → o ≡ after sizes s (byte_kind (get_or text at 0)) → run sizes (take (at + 1) text) initial ≡ o
   run_step text at s o lt before e =
       ap (λ t. run sizes t initial) (take_more text at 0 lt)
       ∙ run-append sizes (take at text) (get_or text at 0 ∷ []) initial
@@ -33,7 +33,7 @@ module _ (sizes : Sizes) where
         omega (arith, length-take at text)
 
     -- no text of the grammar goes on with this byte
-    pub refused_here : (text : List ℕ) (at : ℕ) (s : State) → length text ≤ 1100 → at < length text → run sizes (take at text) initial ≡ Some s → None ≡ after sizes s (kind (get_or text at 0)) → IsRefusedAt sizes text at
+    pub refused_here : (text : List ℕ) (at : ℕ) (s : State) → length text ≤ 1100 → at < length text → run sizes (take at text) initial ≡ Some s → None ≡ after sizes s (byte_kind (get_or text at 0)) → IsRefusedAt sizes text at
     refused_here text at s short lt before e =
         let byte = get_or text at 0 in
         let whole : text ≡ take at text ++ byte ∷ drop (suc at) text = sym (take-append-drop at text) ∙ ap (λ t. take at text ++ t) (drop-cons text at 0 lt) in
@@ -53,5 +53,5 @@ module _ (sizes : Sizes) where
       place = ended_early sizes few_blocks text s all;
     }
 
-    pub spelled_at_end : (text : List ℕ) (s : State) (e : Expression) → run sizes text initial ≡ Some s → Some e ≡ finished s → Spells sizes text e
+    pub spelled_at_end : (text : List ℕ) (s : State) (e : Expression) → run sizes text initial ≡ Some s → Some e ≡ finished s → SpellsExpression sizes text e
     spelled_at_end text s e all h = sound sizes few_blocks text e (ap (and_then finished) all ∙ sym h)

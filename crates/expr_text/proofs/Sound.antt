@@ -15,9 +15,9 @@ use Rattle.expr_text.specs.declared.word.Keyword.{Keyword}
 use Rattle.expr_text.specs.declared.word.Keyword.TheVariants as keyword
 use Rattle.expr_text.specs.declared.word.Kind.{Kind}
 use Rattle.expr_text.specs.declared.word.Kind.TheVariants.{Space, Sign, Open, Close, Comma, Dot, Digit, Letter, Other}
-use Rattle.expr_text.specs.Grammar.{Atom, number_token, cycle_token, input_token, word_token, group, call_form, spaces, sign, letters, atom_text, atom_tree, called_with, AtomIn, IsSumSign, IsProductSign, Spells}
+use Rattle.expr_text.specs.Grammar.{Atom, number_token, cycle_token, input_token, word_token, group, call_form, spaces, sign, letters, atom_text, atom_tree, called_with, AtomIn, IsSumSign, IsProductSign, SpellsExpression}
 use Rattle.expr_text.specs.Names.{first_letter, other_letters}
-use Rattle.expr_text.specs.Reading.{Pending, Level, Frame, Opening, Lexeme, State, Operand, Operator, Start, Digits, Letters, InputDigit, BlockStart, BlockDigits, WordDigit, Parenthesis, Group, First, Second, Third, fresh, initial, joined, factored, completed, opened, named, spelled, keyword_at, begun, longer, with_number, signed, at_start, at_end, closed_at, next_at, in_digits, in_letters, in_input, at_block, in_block, in_word, at_parenthesis, after, kind, run, read, and_then, finished, finished_in}
+use Rattle.expr_text.specs.Reading.{Pending, Level, Frame, Opening, Lexeme, State, Operand, Operator, Start, Digits, Letters, InputDigit, BlockStart, BlockDigits, WordDigit, Parenthesis, Group, First, Second, Third, fresh, initial, joined, factored, completed, opened, named, keyword_spelled, keyword_at, begun, with_digit, with_number, signed, at_start, at_end, closed_at, next_at, in_digits, in_letters, in_input, at_block, in_block, in_word, at_parenthesis, after, byte_kind, run, read, and_then, finished, finished_in}
 use Rattle.expr_text.proofs.Bytes.{IsKind, is_kind, cond_by}
 use Rattle.expr_text.proofs.Pieces.{SumSpelled, AtomSpelled, LevelRead, ThirdRead, OpeningRead, FramesRead, Exists, LexemeRead, OperandRead, OperatorRead, StateRead, OptionRead, sum_joined, completed_read}
 
@@ -40,7 +40,7 @@ decimal_more n d some small wide =
     let last : (n * 10 + d) % 10 ≡ d = omega arith in
     sym (decimal_step (n * 10 + d) (omega arith) wide ∙ ap (λ k. decimal k ++ (48 + (n * 10 + d) % 10) ∷ []) front ∙ ap (λ k. decimal n ++ (48 + k) ∷ []) last)
 
-pub with_number_by : (P : Option State → Type 0) (go : ℕ → State) (limit n d : ℕ) → P None → (0 < n → n * 10 + d < limit → P (Some (go (n * 10 + d)))) → P (with_number go (longer limit n d))
+pub with_number_by : (P : Option State → Type 0) (go : ℕ → State) (limit n d : ℕ) → P None → (0 < n → n * 10 + d < limit → P (Some (go (n * 10 + d)))) → P (with_number go (with_digit limit n d))
 with_number_by P go limit zero d none some = none
 with_number_by P go limit (suc n) d none some =
     cond_by (λ o. P (with_number go o)) (nat_lt (suc n * 10 + d) limit) _ _ (λ e. some (omega arith) (ltb-true _ _ e)) (λ _. none)
@@ -92,7 +92,7 @@ module _ (sizes : Sizes) (few_blocks : sizes.blocks ≤ 256) where
   named_read frames level old text byte (keyword.Call (called.Native Ramp)) r gap known e = lexed frames level old (Parenthesis (called.Native Ramp)) text _ byte r e (gap, 0, refl)
   named_read frames level old text byte (keyword.Call called.Pick) r gap known e = lexed frames level old (Parenthesis called.Pick) text _ byte r e (gap, 0, refl)
 
-  spelled_read : (frames : List Frame) (level : Level) (old : Lexeme) (text : List ℕ) (byte : ℕ) (k : Keyword) (rest done : List ℕ) (r : OperandRead sizes frames level old text) (gap : ℕ) → Exists sizes k → done ++ rest ≡ first_letter k ∷ other_letters k → r.part ++ byte ∷ [] ≡ spaces gap ++ done → StateRead sizes (spelled frames level k rest) (text ++ byte ∷ [])
+  spelled_read : (frames : List Frame) (level : Level) (old : Lexeme) (text : List ℕ) (byte : ℕ) (k : Keyword) (rest done : List ℕ) (r : OperandRead sizes frames level old text) (gap : ℕ) → Exists sizes k → done ++ rest ≡ first_letter k ∷ other_letters k → r.part ++ byte ∷ [] ≡ spaces gap ++ done → StateRead sizes (keyword_spelled frames level k rest) (text ++ byte ∷ [])
   spelled_read frames level old text byte k [] done r gap known name e =
       named_read frames level old text byte k r gap known (e ∙ ap (λ t. spaces gap ++ t) (sym (append-nil done) ∙ name))
   spelled_read frames level old text byte k (next ∷ rest) done r gap known name e =
@@ -378,7 +378,7 @@ module _ (sizes : Sizes) (few_blocks : sizes.blocks ≤ 256) where
   run_read [] text s r = subst (λ t. StateRead sizes s t) (sym (append-nil text)) r
   run_read (byte ∷ bytes) text s r =
       subst (λ t. Read (run sizes (byte ∷ bytes) s) t) (append_assoc text (byte ∷ []) bytes)
-      (go (run_read bytes (text ++ byte ∷ [])) (after sizes s (kind byte)) (after_read s text byte (kind byte) (is_kind byte) r))
+      (go (run_read bytes (text ++ byte ∷ [])) (after sizes s (byte_kind byte)) (after_read s text byte (byte_kind byte) (is_kind byte) r))
     where
       go : ((t : State) → StateRead sizes t (text ++ byte ∷ []) → Read (run sizes bytes t) ((text ++ byte ∷ []) ++ bytes)) → (o : Option State) → Read o (text ++ byte ∷ []) → Read (and_then (run sizes bytes) o) ((text ++ byte ∷ []) ++ bytes)
       go ih None r = tt
@@ -389,7 +389,7 @@ module _ (sizes : Sizes) (few_blocks : sizes.blocks ≤ 256) where
 
   abbrev OptionSpells : Option Expression → List ℕ → Type 0
   OptionSpells None text = Unit {0}
-  OptionSpells (Some e) text = Spells sizes text e
+  OptionSpells (Some e) text = SpellsExpression sizes text e
 
   ended : (frames : List Frame) (sum : Pending) (made : Expression) (text : List ℕ) → OperatorRead sizes frames sum made text → OptionSpells (finished_in frames (joined sum made)) text
   ended [] sum made text r =
@@ -411,7 +411,7 @@ module _ (sizes : Sizes) (few_blocks : sizes.blocks ≤ 256) where
   finished_spells (Operand frames level _) text r = tt
 
   -- what is read is in the grammar, as what it is read
-  pub sound : (text : List ℕ) (e : Expression) → read sizes text initial ≡ Some e → Spells sizes text e
+  pub sound : (text : List ℕ) (e : Expression) → read sizes text initial ≡ Some e → SpellsExpression sizes text e
   sound text e h = subst (λ o. OptionSpells o text) h (go (run sizes text initial) (run_read text [] initial initial_read))
     where
       go : (o : Option State) → Read o text → OptionSpells (and_then finished o) text

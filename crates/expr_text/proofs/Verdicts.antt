@@ -7,7 +7,7 @@ use Rattle.expr_core.specs.Size.{node_count, tree_depth}
 use Rattle.expr_text.specs.declared.fault.ExprFault.{ExprFault}
 use Rattle.expr_text.specs.declared.fault.ExprFault.TheVariants.{TooLong, Grammar, TooLarge, Memory}
 use Rattle.expr_text.specs.declared.state.Sizes.{Sizes}
-use Rattle.expr_text.specs.Grammar.{Spells, IsLongestViable}
+use Rattle.expr_text.specs.Grammar.{SpellsExpression, IsLongestViable}
 use Rattle.expr_text.specs.Parsing.{IsSmall, IsLarge, IsRefusedAt, IsTooLarge, IsRead, Parses, IsFault, IsExpr, IsExact, Measures}
 use Rattle.expr_text.proofs.Complete.{unambiguous}
 use Rattle.expr_core.proofs.Trees.{one_expr}
@@ -18,8 +18,8 @@ module _ (sizes : Sizes) (few_blocks : sizes.blocks ≤ 256) (text : List ℕ) w
   clash e (inr h) s = let d = s.1 in omega arith
 
   -- what is measured was spelled by the text
-  pub measured_parses : (e : Expr) → length text ≤ 1100 → Spells sizes text (tree e) → (r : Result Expr ExprFault) → Measures e r → Parses sizes text r
-  measured_parses e short spelled (Ok x) m = record { short = short; spelled = subst (λ y. Spells sizes text (tree y)) (sym m.0) spelled; small = subst (λ y. IsSmall (tree y)) (sym m.0) m.1 }
+  pub measured_parses : (e : Expr) → length text ≤ 1100 → SpellsExpression sizes text (tree e) → (r : Result Expr ExprFault) → Measures e r → Parses sizes text r
+  measured_parses e short spelled (Ok x) m = record { short = short; spelled = subst (λ y. SpellsExpression sizes text (tree y)) (sym m.0) spelled; small = subst (λ y. IsSmall (tree y)) (sym m.0) m.1 }
   measured_parses e short spelled (Err TooLong) m = absurd m
   measured_parses e short spelled (Err (Grammar at)) m = absurd m
   measured_parses e short spelled (Err (TooLarge n d)) m = (tree e, record { short = short; spelled = spelled; large = m.0 }, m.1, m.2)

@@ -13,7 +13,7 @@ use Rattle.expr_text.specs.declared.word.Keyword.TheVariants as keyword
 use Rattle.expr_text.specs.declared.word.Kind.TheVariants.{Letter}
 use Rattle.expr_text.specs.Grammar.{called_with, IsInGrammar, IsViable, IsLongestViable}
 use Rattle.expr_text.specs.Names.{first_letter, other_letters}
-use Rattle.expr_text.specs.Reading.{Pending, Level, Frame, Opening, State, Operand, Operator, Start, Digits, Letters, InputDigit, BlockStart, BlockDigits, WordDigit, Parenthesis, Group, First, Second, Third, initial, joined, factored, completed, named, spelled, after, kind, run, read, and_then, finished}
+use Rattle.expr_text.specs.Reading.{Pending, Level, Frame, Opening, State, Operand, Operator, Start, Digits, Letters, InputDigit, BlockStart, BlockDigits, WordDigit, Parenthesis, Group, First, Second, Third, initial, joined, factored, completed, named, keyword_spelled, after, byte_kind, run, read, and_then, finished}
 use Rattle.expr_text.proofs.Runs.{run-append, EndsNumber, number_ended}
 use Rattle.expr_text.proofs.Complete.{complete}
 use Rattle.expr_text.proofs.Pieces.{Exists, StateRead, OptionRead}
@@ -21,7 +21,7 @@ use Rattle.expr_text.proofs.Sound.{run_read, initial_read, sound}
 
 abbrev AreLetters : List ℕ → Type 0
 AreLetters [] = Unit {0}
-AreLetters (x ∷ xs) = (kind x ≡ Letter x) × AreLetters xs
+AreLetters (x ∷ xs) = (byte_kind x ≡ Letter x) × AreLetters xs
 
 letters_behind : (done rest : List ℕ) → AreLetters (done ++ rest) → AreLetters rest
 letters_behind [] rest h = h
@@ -101,11 +101,11 @@ module _ (sizes : Sizes) (few_blocks : sizes.blocks ≤ 256) where
   finish_named frames level keyword.Block h = finish_block_start frames level h
   finish_named frames level (keyword.Call f) h = finish_parenthesis frames level f
 
-  spelled_run : (frames : List Frame) (level : Level) (k : Keyword) (rest more : List ℕ) → AreLetters rest → run sizes (rest ++ more) (spelled frames level k rest) ≡ run sizes more (named frames level k)
+  spelled_run : (frames : List Frame) (level : Level) (k : Keyword) (rest more : List ℕ) → AreLetters rest → run sizes (rest ++ more) (keyword_spelled frames level k rest) ≡ run sizes more (named frames level k)
   spelled_run frames level k [] more h = refl
   spelled_run frames level k (x ∷ rest) more h =
       ap (λ y. and_then (run sizes (rest ++ more)) (after sizes (Operand frames level (Letters k x rest)) y)) h.0
-      ∙ ap (λ b. and_then (run sizes (rest ++ more)) (cond b (Some (spelled frames level k rest)) None)) (eq-eqb x x refl)
+      ∙ ap (λ b. and_then (run sizes (rest ++ more)) (cond b (Some (keyword_spelled frames level k rest)) None)) (eq-eqb x x refl)
       ∙ spelled_run frames level k rest more h.1
 
   finish : (s : State) (text : List ℕ) → StateRead sizes s text → Finishes s
@@ -157,10 +157,10 @@ module _ (sizes : Sizes) (few_blocks : sizes.blocks ≤ 256) where
   take_past (x ∷ xs) rest byte (suc n) lt = let m = take_past xs rest byte n (omega arith) in (m.0, ap (λ t. x ∷ t) m.1)
 
   -- the reader has no state behind this byte
-  pub stops : (front more : List ℕ) (byte : ℕ) (s : State) → run sizes front initial ≡ Some s → after sizes s (kind byte) ≡ None → run sizes (front ++ byte ∷ more) initial ≡ None
+  pub stops : (front more : List ℕ) (byte : ℕ) (s : State) → run sizes front initial ≡ Some s → after sizes s (byte_kind byte) ≡ None → run sizes (front ++ byte ∷ more) initial ≡ None
   stops front more byte s h e = run-append sizes front (byte ∷ more) initial ∙ ap (and_then (run sizes (byte ∷ more))) h ∙ ap (and_then (run sizes more)) e
 
-  pub stopped : (front rest : List ℕ) (byte : ℕ) (s : State) → run sizes front initial ≡ Some s → after sizes s (kind byte) ≡ None → IsLongestViable sizes (front ++ byte ∷ rest) (length front)
+  pub stopped : (front rest : List ℕ) (byte : ℕ) (s : State) → run sizes front initial ≡ Some s → after sizes s (byte_kind byte) ≡ None → IsLongestViable sizes (front ++ byte ∷ rest) (length front)
   stopped front rest byte s h e = record {
     within = omega (arith, length-append front (byte ∷ rest));
     viable = subst (IsViable sizes) (sym (take_front front (byte ∷ rest))) (viable front s h);

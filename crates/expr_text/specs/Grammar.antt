@@ -135,7 +135,7 @@ abbrev mutual
   AtomIn sizes (call_form gap f open_gap a first_gap b second_gap c end_gap) = SumIn sizes a × SumIn sizes b × SumIn sizes c
 
 -- The text stands for the expression: it is a sum, and spaces at its end.
-pub record Spells (sizes : Sizes) (text : List ℕ) (e : Expression) : Type 0 where
+pub record SpellsExpression (sizes : Sizes) (text : List ℕ) (e : Expression) : Type 0 where
   pub sum : Sum
   pub valid : SumIn sizes sum
   pub end_gap : ℕ
@@ -143,7 +143,7 @@ pub record Spells (sizes : Sizes) (text : List ℕ) (e : Expression) : Type 0 wh
   pub tree_is : sum_tree sum ≡ e
 
 abbrev pub IsInGrammar : Sizes → List ℕ → Type 0
-IsInGrammar sizes text = (e : Expression) × Spells sizes text e
+IsInGrammar sizes text = (e : Expression) × SpellsExpression sizes text e
 
 -- Some text of the grammar begins so.
 abbrev pub IsViable : Sizes → List ℕ → Type 0

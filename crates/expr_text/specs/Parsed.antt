@@ -7,7 +7,7 @@ use Rattle.expr_core.specs.Tree.{tree}
 use Rattle.expr_text.specs.declared.fault.ExprFault.{ExprFault}
 use Rattle.expr_text.specs.declared.fault.ExprFault.TheVariants.{TooLong, Grammar, TooLarge, Memory}
 use Rattle.expr_text.specs.declared.state.Sizes.{Sizes}
-use Rattle.expr_text.specs.Reading.{State, initial, after, kind, finished}
+use Rattle.expr_text.specs.Reading.{State, initial, after, byte_kind, finished}
 
 -- the expression that is complete behind the text
 abbrev pub ended : ℕ → Option Expression → Result Expression ExprFault
@@ -22,16 +22,16 @@ gone_on at go (Some state) = go state
 -- the expression that these bytes complete, which stand from a place on, or the place where they stop
 abbrev pub read_from : Sizes → List ℕ → ℕ → State → Result Expression ExprFault
 read_from sizes [] at state = ended at (finished state)
-read_from sizes (byte ∷ bytes) at state = gone_on at (read_from sizes bytes (at + 1)) (after sizes state (kind byte))
+read_from sizes (byte ∷ bytes) at state = gone_on at (read_from sizes bytes (at + 1)) (after sizes state (byte_kind byte))
 
 -- an expression has at most 64 nodes and a depth of at most 16
-abbrev pub sized : Result Expression ExprFault → Result Expression ExprFault
-sized (Ok e) = if nat_le (node_count e) 64 && nat_le (tree_depth e) 16 then Ok e else Err (TooLarge (node_count e) (tree_depth e))
-sized (Err fault) = Err fault
+abbrev pub within_size : Result Expression ExprFault → Result Expression ExprFault
+within_size (Ok e) = if nat_le (node_count e) 64 && nat_le (tree_depth e) 16 then Ok e else Err (TooLarge (node_count e) (tree_depth e))
+within_size (Err fault) = Err fault
 
 -- what parsing a text answers: the expression, or why there is none
 unfoldable pub parsed : Sizes → List ℕ → Result Expression ExprFault
-parsed sizes text = if nat_lt 1100 (length text) then Err TooLong else sized (read_from sizes text 0 initial)
+parsed sizes text = if nat_lt 1100 (length text) then Err TooLong else within_size (read_from sizes text 0 initial)
 
 -- The answer is the one that is expected, or want of memory.
 abbrev pub IsAnswerOf : Result Expression ExprFault → Result Expr ExprFault → Type 0

@@ -10,7 +10,7 @@ use Rattle.expr_text.specs.declared.state.Sizes.{Sizes}
 use Rattle.expr_text.specs.declared.state.State as code
 use Rattle.expr_text.specs.Reading.{run, initial}
 use Rattle.expr_text.specs.Views.{state_of}
-use Rattle.expr_text.specs.Grammar.{Spells, IsInGrammar, IsLongestViable}
+use Rattle.expr_text.specs.Grammar.{SpellsExpression, IsInGrammar, IsLongestViable}
 
 abbrev pub IsSmall : Expression → Type 0
 IsSmall e = (node_count e ≤ 64) × (tree_depth e ≤ 16)
@@ -27,13 +27,13 @@ pub record IsRefusedAt (sizes : Sizes) (text : List ℕ) (at : ℕ) : Type 0 whe
 -- The text stands for an expression that is too large.
 pub record IsTooLarge (sizes : Sizes) (text : List ℕ) (e : Expression) : Type 0 where
   pub short : length text ≤ 1100
-  pub spelled : Spells sizes text e
+  pub spelled : SpellsExpression sizes text e
   pub large : IsLarge e
 
 -- The text stands for an expression that is not.
 pub record IsRead (sizes : Sizes) (text : List ℕ) (e : Expression) : Type 0 where
   pub short : length text ≤ 1100
-  pub spelled : Spells sizes text e
+  pub spelled : SpellsExpression sizes text e
   pub small : IsSmall e
 
 -- What each answer says of the text. Want of memory says nothing.

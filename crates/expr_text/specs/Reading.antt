@@ -82,9 +82,9 @@ named frames level keyword.Input = Operand frames level InputDigit
 named frames level keyword.Block = Operand frames level BlockStart
 named frames level (keyword.Call f) = Operand frames level (Parenthesis f)
 
-abbrev pub spelled : List Frame → Level → Keyword → List ℕ → State
-spelled frames level k [] = named frames level k
-spelled frames level k (next ∷ rest) = Operand frames level (Letters k next rest)
+abbrev pub keyword_spelled : List Frame → Level → Keyword → List ℕ → State
+keyword_spelled frames level k [] = named frames level k
+keyword_spelled frames level k (next ∷ rest) = Operand frames level (Letters k next rest)
 
 -- The keyword with this first letter. Where there is no input word, or no block, none is named.
 abbrev pub keyword_at : Sizes → ℕ → Option Keyword
@@ -99,12 +99,12 @@ keyword_at sizes letter =
 
 abbrev pub begun : List Frame → Level → Option Keyword → Option State
 begun frames level None = None
-begun frames level (Some k) = Some (spelled frames level k (other_letters k))
+begun frames level (Some k) = Some (keyword_spelled frames level k (other_letters k))
 
 -- one more digit of a number below the limit, which has no leading zero
-abbrev pub longer : ℕ → ℕ → ℕ → Option ℕ
-longer limit zero d = None
-longer limit (suc n) d = if nat_lt (suc n * 10 + d) limit then Some (suc n * 10 + d) else None
+abbrev pub with_digit : ℕ → ℕ → ℕ → Option ℕ
+with_digit limit zero d = None
+with_digit limit (suc n) d = if nat_lt (suc n * 10 + d) limit then Some (suc n * 10 + d) else None
 
 abbrev pub with_number : (ℕ → State) → Option ℕ → Option State
 with_number go None = None
@@ -158,11 +158,11 @@ at_end frames sum product Comma = next_argument frames (joined sum product)
 at_end frames sum product _ = None
 
 abbrev pub in_digits : List Frame → Level → ℕ → Kind → Option State
-in_digits frames level n (Digit d) = with_number (λ m. Operand frames level (Digits m)) (longer (2 ^ 63) n d)
-in_digits frames level n kind = at_end frames level.sum (factored level (number (pos n))) kind
+in_digits frames level n (Digit d) = with_number (λ m. Operand frames level (Digits m)) (with_digit (2 ^ 63) n d)
+in_digits frames level n byte_kind = at_end frames level.sum (factored level (number (pos n))) byte_kind
 
 abbrev pub in_letters : List Frame → Level → Keyword → ℕ → List ℕ → Kind → Option State
-in_letters frames level k next rest (Letter x) = if nat_eq x next then Some (spelled frames level k rest) else None
+in_letters frames level k next rest (Letter x) = if nat_eq x next then Some (keyword_spelled frames level k rest) else None
 in_letters frames level k next rest _ = None
 
 abbrev pub in_input : Sizes → List Frame → Level → Kind → Option State
@@ -174,7 +174,7 @@ at_block sizes frames level (Digit d) = if nat_lt d sizes.blocks then Some (Oper
 at_block sizes frames level _ = None
 
 abbrev pub in_block : Sizes → List Frame → Level → ℕ → Kind → Option State
-in_block sizes frames level n (Digit d) = with_number (λ m. Operand frames level (BlockDigits m)) (longer sizes.blocks n d)
+in_block sizes frames level n (Digit d) = with_number (λ m. Operand frames level (BlockDigits m)) (with_digit sizes.blocks n d)
 in_block sizes frames level n Dot = Some (Operand frames level (WordDigit n))
 in_block sizes frames level n _ = None
 
@@ -189,19 +189,19 @@ at_parenthesis frames level f _ = None
 
 -- the state after one more byte, or none where no text of the grammar goes on with it
 abbrev pub after : Sizes → State → Kind → Option State
-after sizes (Operand frames level Start) kind = at_start sizes frames level kind
-after sizes (Operand frames level (Digits n)) kind = in_digits frames level n kind
-after sizes (Operand frames level (Letters k next rest)) kind = in_letters frames level k next rest kind
-after sizes (Operand frames level InputDigit) kind = in_input sizes frames level kind
-after sizes (Operand frames level BlockStart) kind = at_block sizes frames level kind
-after sizes (Operand frames level (BlockDigits n)) kind = in_block sizes frames level n kind
-after sizes (Operand frames level (WordDigit n)) kind = in_word frames level n kind
-after sizes (Operand frames level (Parenthesis f)) kind = at_parenthesis frames level f kind
-after sizes (Operator frames sum product) kind = at_end frames sum product kind
+after sizes (Operand frames level Start) byte_kind = at_start sizes frames level byte_kind
+after sizes (Operand frames level (Digits n)) byte_kind = in_digits frames level n byte_kind
+after sizes (Operand frames level (Letters k next rest)) byte_kind = in_letters frames level k next rest byte_kind
+after sizes (Operand frames level InputDigit) byte_kind = in_input sizes frames level byte_kind
+after sizes (Operand frames level BlockStart) byte_kind = at_block sizes frames level byte_kind
+after sizes (Operand frames level (BlockDigits n)) byte_kind = in_block sizes frames level n byte_kind
+after sizes (Operand frames level (WordDigit n)) byte_kind = in_word frames level n byte_kind
+after sizes (Operand frames level (Parenthesis f)) byte_kind = at_parenthesis frames level f byte_kind
+after sizes (Operator frames sum product) byte_kind = at_end frames sum product byte_kind
 
 -- what a byte is
-abbrev pub kind : ℕ → Kind
-kind byte =
+abbrev pub byte_kind : ℕ → Kind
+byte_kind byte =
     if nat_eq byte 32 then Space
     else (if nat_eq byte 43 then Sign Add
     else (if nat_eq byte 45 then Sign Sub
@@ -239,7 +239,7 @@ and_then go (Some x) = go x
 -- the state after these bytes
 abbrev pub run : Sizes → List ℕ → State → Option State
 run sizes [] state = Some state
-run sizes (byte ∷ bytes) state = and_then (run sizes bytes) (after sizes state (kind byte))
+run sizes (byte ∷ bytes) state = and_then (run sizes bytes) (after sizes state (byte_kind byte))
 
 -- the expression that these bytes complete
 abbrev pub read : Sizes → List ℕ → State → Option Expression

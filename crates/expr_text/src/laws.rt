@@ -2,11 +2,11 @@
 
 ghost use Rattle.std.specs.Prelude.{◌≡◌, ◌≤◌, ℕ, List};
 ghost use Rattle.guards_model.specs.Expressions.{Expression};
-ghost use Rattle.expr_text.specs.Grammar.{Spells};
+ghost use Rattle.expr_text.specs.Grammar.{SpellsExpression};
 
 use crate::state::Sizes;
 
 /// A text stands for at most one expression.
 pub fn one_reading()
-    ensures { (sizes : Sizes) (text : List ℕ) (d e : Expression) → sizes.blocks ≤ 256 → Spells sizes text d → Spells sizes text e → d ≡ e }
+    ensures { (sizes : Sizes) (text : List ℕ) (d e : Expression) → sizes.blocks ≤ 256 → SpellsExpression sizes text d → SpellsExpression sizes text e → d ≡ e }
 {}

@@ -1,5 +1,5 @@
 pub mod Others
 pub mod EntryFaults
-pub mod Tables
-pub mod Parts
-pub mod Steps
+pub mod StandingTables
+pub mod ScriptEntries
+pub mod LedgerSteps

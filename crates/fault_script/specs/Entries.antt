@@ -10,8 +10,8 @@ use Rattle.fault_script.specs.declared.script.Fault.{Fault}
 use Rattle.fault_script.specs.declared.script.Fault.TheVariants as entries
 use Rattle.fault_script.specs.declared.script.ScriptFault.{ScriptFault}
 use Rattle.fault_script.specs.declared.script.ScriptFault.TheVariants as faults
-use Rattle.fault_script.specs.declared.ledger.Standing.{Standing}
-use Rattle.fault_script.specs.declared.ledger.Standing.TheVariants as standings
+use Rattle.fault_script.specs.declared.ledger.LedgerMode.{LedgerMode}
+use Rattle.fault_script.specs.declared.ledger.LedgerMode.TheVariants as standings
 
 abbrev pub fault_value : Fault → FaultValue
 fault_value (entries.Crash channel cycle slot) = crash channel cycle slot
@@ -49,14 +49,14 @@ abbrev pub IsAnswer : Option ScriptFault → Option ScriptFaultValue → Type 0
 IsAnswer None fault = fault ≡ None
 IsAnswer (Some answer) fault = Breaks answer fault
 
-abbrev pub standing_value : Standing → ModeValue
+abbrev pub standing_value : LedgerMode → ModeValue
 standing_value standings.Up = up
 standing_value standings.Down = down
 standing_value (standings.Waiting cycles) = waiting cycles
 standing_value standings.Joining = joining
 
 -- the mode at a place of a table of seven
-abbrev pub standing_at : List Standing → ℕ → ModeValue
+abbrev pub standing_at : List LedgerMode → ℕ → ModeValue
 standing_at table q = standing_value (slice_index_or table q standings.Up)
 
 -- the mode without how long a channel waits

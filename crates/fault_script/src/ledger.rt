@@ -14,7 +14,7 @@ use std::marker::Model;
 
 /// The mode of a channel, with the cycles that it still waits.
 #[derive(Clone, Copy, Debug, PartialEq, Eq)]
-enum Standing {
+enum LedgerMode {
     Up,
     Down,
     Waiting(u32),
@@ -26,7 +26,7 @@ enum Standing {
 pub struct Ledger {
     return_after: u32,
     // A place past the channels is down.
-    standings: [Standing; 7],
+    standings: [LedgerMode; 7],
     damaged: ChanSet,
 }
 
@@ -132,47 +132,47 @@ fn has_crash(script: &Script, channel: u8, cycle: u32, slot: Slot) -> bool
 
 // ---- single standings
 
-impl Standing {
+impl LedgerMode {
     fn mode(self) -> Mode
         ensures { result ≡ plain_mode (standing_value self) }
     {
         match self {
-            Standing::Up => Mode::Up,
-            Standing::Down => Mode::Down,
-            Standing::Waiting(_) => Mode::Waiting,
-            Standing::Joining => Mode::Joining,
+            LedgerMode::Up => Mode::Up,
+            LedgerMode::Down => Mode::Down,
+            LedgerMode::Waiting(_) => Mode::Waiting,
+            LedgerMode::Joining => Mode::Joining,
         }
     }
 
     fn is_up(self) -> bool
         ensures { result ≡ is_up (standing_value self) }
     {
-        matches!(self, Standing::Up)
+        matches!(self, LedgerMode::Up)
     }
 
-    fn at_start(self, restarted: bool) -> Standing
+    fn at_start(self, restarted: bool) -> LedgerMode
         ensures { standing_value result ≡ mode_at_start restarted (standing_value self) }
     {
         match self {
-            Standing::Up => Standing::Up,
-            Standing::Down if restarted => Standing::Joining,
-            Standing::Down => Standing::Down,
-            Standing::Waiting(0) => Standing::Joining,
-            Standing::Waiting(cycles) => Standing::Waiting(cycles - 1),
-            Standing::Joining => Standing::Joining,
+            LedgerMode::Up => LedgerMode::Up,
+            LedgerMode::Down if restarted => LedgerMode::Joining,
+            LedgerMode::Down => LedgerMode::Down,
+            LedgerMode::Waiting(0) => LedgerMode::Joining,
+            LedgerMode::Waiting(cycles) => LedgerMode::Waiting(cycles - 1),
+            LedgerMode::Joining => LedgerMode::Joining,
         }
     }
 
-    fn at_end(self, return_after: u32, switched_on: bool, taken: bool) -> Standing
+    fn at_end(self, return_after: u32, switched_on: bool, taken: bool) -> LedgerMode
         ensures { standing_value result ≡ mode_at_end return_after switched_on taken (standing_value self) }
     {
         match self {
-            Standing::Up if switched_on => Standing::Up,
-            Standing::Up => Standing::Waiting(return_after),
-            Standing::Down => Standing::Down,
-            Standing::Waiting(cycles) => Standing::Waiting(cycles),
-            Standing::Joining if taken => Standing::Up,
-            Standing::Joining => Standing::Joining,
+            LedgerMode::Up if switched_on => LedgerMode::Up,
+            LedgerMode::Up => LedgerMode::Waiting(return_after),
+            LedgerMode::Down => LedgerMode::Down,
+            LedgerMode::Waiting(cycles) => LedgerMode::Waiting(cycles),
+            LedgerMode::Joining if taken => LedgerMode::Up,
+            LedgerMode::Joining => LedgerMode::Joining,
         }
     }
 
@@ -183,19 +183,19 @@ impl Standing {
         self.is_up() && (gets || had)
     }
 
-    fn turned_joining(self, before: Standing) -> bool
+    fn turned_joining(self, before: LedgerMode) -> bool
         ensures { result ≡ (is_joining (standing_value self) && not (is_joining (standing_value before))) }
     {
-        matches!(self, Standing::Joining) && !matches!(before, Standing::Joining)
+        matches!(self, LedgerMode::Joining) && !matches!(before, LedgerMode::Joining)
     }
 
-    fn turned_down(self, before: Standing) -> bool
+    fn turned_down(self, before: LedgerMode) -> bool
         ensures { result ≡ (is_down (standing_value self) && not (is_down (standing_value before))) }
     {
-        matches!(self, Standing::Down) && !matches!(before, Standing::Down)
+        matches!(self, LedgerMode::Down) && !matches!(before, LedgerMode::Down)
     }
 
-    fn left_up(self, before: Standing) -> bool
+    fn left_up(self, before: LedgerMode) -> bool
         ensures { result ≡ (is_up (standing_value before) && not (is_up (standing_value self))) }
     {
         before.is_up() && !self.is_up()
@@ -205,7 +205,7 @@ impl Standing {
 // ---- the table of standings
 
 /// A standing for each channel.
-type Standings = [Standing; 7];
+type Standings = [LedgerMode; 7];
 
 /// The standings at a cycle's start.
 fn started(before: Standings, script: &Script, cycle: u32) -> Standings
@@ -224,10 +224,10 @@ fn started(before: Standings, script: &Script, cycle: u32) -> Standings
 }
 
 /// A standing after the crashes of a cycle up to a slot.
-fn crashed_if(before: Standing, crashed: bool) -> Standing
+fn crashed_if(before: LedgerMode, crashed: bool) -> LedgerMode
     ensures { standing_value result ≡ (if crashed then down else standing_value before) }
 {
-    if crashed { Standing::Down } else { before }
+    if crashed { LedgerMode::Down } else { before }
 }
 
 /// The standings in a slot.
@@ -349,7 +349,7 @@ fn who_left_up(before: Standings, after: Standings) -> ChanSet
 }
 
 /// Whether a channel is active and disturbed, by its standing, its mark and its charge.
-fn is_disturbed(active: bool, standing: Standing, marked: bool, charged: bool) -> bool
+fn is_disturbed(active: bool, standing: LedgerMode, marked: bool, charged: bool) -> bool
     ensures { result ≡ (active && (not (is_up (standing_value standing)) || marked || charged)) }
 {
     active && (!standing.is_up() || marked || charged)
@@ -472,12 +472,12 @@ fn first_standings(channels: u8) -> Standings
     ]
 }
 
-fn first_standing(is_channel: bool) -> Standing
+fn first_standing(is_channel: bool) -> LedgerMode
     ensures { standing_value result ≡ (if is_channel then up else down) }
 {
     if is_channel {
-        Standing::Up
+        LedgerMode::Up
     } else {
-        Standing::Down
+        LedgerMode::Down
     }
 }

@@ -21,8 +21,8 @@ abbrev pub capacity : Feed → ℕ
 capacity f = f.producer.capacity
 
 -- the copies that the framer has, in order
-abbrev pub taken : Framer → List CopyValue
-taken f = f.copies.items
+abbrev pub copies_taken : Framer → List CopyValue
+copies_taken f = f.copies.items
 
 -- the copies of which the framer knows that they are in the ring
 abbrev pub known : Framer → List CopyValue

@@ -1,6 +1,6 @@
 //! A pipe as a whole.
 ghost use Rattle.std.specs.Prelude.{◌≡◌, ◌≤◌, [], IfOk};
-ghost use Rattle.frame_pipe.specs.Pipes.{feed_name, framer_name, sent, capacity, taken, known};
+ghost use Rattle.frame_pipe.specs.Pipes.{feed_name, framer_name, sent, capacity, copies_taken, known};
 
 use crate::feed::{Feed, MOST_COPIES, PlanLong};
 use crate::framer::Framer;
@@ -14,7 +14,7 @@ pub fn pipe(alloc: Global, room: u16) -> Result<(Feed, Framer), AllocError>
     requires few { room ≤ 64 }
     ensures pair { IfOk result (λ r. feed_name r.0 ≡ framer_name r.1) }
     ensures feed { IfOk result (λ r. (sent r.0 ≡ []) × (capacity r.0 ≡ room)) }
-    ensures framer { IfOk result (λ r. (taken r.1 ≡ []) × (known r.1 ≡ [])) }
+    ensures framer { IfOk result (λ r. (copies_taken r.1 ≡ []) × (known r.1 ≡ [])) }
 {
     let (producer, consumer) = RingBuffer::with_protocol::<Global, PlanLong>(
         alloc,

@@ -19,12 +19,12 @@ pub struct Framer {
 
 impl Framer {
     ghost use Rattle.guards_model.specs.Frames.{CopyValue};
-    ghost use Rattle.frame_pipe.specs.Pipes.{feed_name, framer_name, sent, taken, known};
+    ghost use Rattle.frame_pipe.specs.Pipes.{feed_name, framer_name, sent, copies_taken, known};
 
     /// Moves the next copy from the ring to the list. It answers false only where it knows of no copy in the ring, and
     /// then nothing changes. It never waits and takes no memory.
     pub fn take(&mut self) -> bool
-        ensures moved { MatchBool result ((copy : CopyValue) × (taken self.new ≡ taken self.old ++ copy ∷ []) × IsPrefix (known self.old) (copy ∷ known self.new)) ((taken self.new ≡ taken self.old) × (known self.old ≡ []) × (known self.new ≡ [])) }
+        ensures moved { MatchBool result ((copy : CopyValue) × (copies_taken self.new ≡ copies_taken self.old ++ copy ∷ []) × IsPrefix (known self.old) (copy ∷ known self.new)) ((copies_taken self.new ≡ copies_taken self.old) × (known self.old ≡ []) × (known self.new ≡ [])) }
         ensures name { framer_name self.new ≡ framer_name self.old }
     {
         let Ok(copy) = self.consumer.pop() else {
@@ -38,14 +38,14 @@ impl Framer {
     pub(crate) fn look(&mut self, feed: &mut Feed) -> usize
         requires { feed_name feed.old ≡ framer_name self.old }
         ensures left { result ≡ length (known self.new) }
-        ensures all { taken self.new ++ known self.new ≡ sent feed.old }
+        ensures all { copies_taken self.new ++ known self.new ≡ sent feed.old }
     {
         self.consumer.slots_beside(&mut feed.producer)
     }
 
     // The copies that were taken.
     pub(crate) fn into_copies(self) -> Copies
-        ensures { result.items ≡ taken self }
+        ensures { result.items ≡ copies_taken self }
     {
         let Framer {
             consumer: _,
@@ -57,7 +57,7 @@ impl Framer {
     // Moves a copy that is known to be in the ring.
     pub(crate) fn take_known(&mut self)
         requires { 0 < length (known self.old) }
-        ensures { (copy : CopyValue) × (taken self.new ≡ taken self.old ++ copy ∷ []) × (known self.old ≡ copy ∷ known self.new) }
+        ensures { (copy : CopyValue) × (copies_taken self.new ≡ copies_taken self.old ++ copy ∷ []) × (known self.old ≡ copy ∷ known self.new) }
     {
         let next = self.consumer.pop_known();
         self.copies.push_reserved(next);

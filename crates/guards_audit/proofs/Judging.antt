@@ -3,26 +3,26 @@ use Rattle.std.proofs.Common.{◌≡◌, ℕ, suc, ◌+◌, Bool, true, false, c
 use Rattle.std.specs.Prelude.{option_and_then, IsTrue}
 use Rattle.guards_model.specs.Missions.{MissionValue}
 use Rattle.guards_model.specs.Texts.{TextValue}
-use Rattle.report_lines.specs.Lines.{ReportLine, spelling, is_form, lines_in}
-use Rattle.guards_audit.specs.Consistency.{Place, at_head, between, amid, awaits_out, at_end, suits, fits, after, IsGood, AreGood, IsConsistent, BreaksOff, IsFirstBad}
-use Rattle.report_lines.specs.Reading.{line_of}
+use Rattle.guards_audit.specs.Lines.{ReportLine, line_spelling, is_form, lines_in}
+use Rattle.guards_audit.specs.Consistency.{Place, at_head, between, amid, awaits_out, at_end, suits_place, fits, following_place, IsGood, AreGood, IsConsistent, TraceBreaksOff, IsFirstBad}
+use Rattle.guards_audit.specs.Reading.{line_read}
 use Rattle.guards_audit.specs.Verdicts.{place_by, place_after, is_at_end, or_on, first_bad_from, first_bad}
 use Rattle.guards_model.proofs.BoolTests.{both, and_true}
-use Rattle.report_lines.proofs.LinesBack.{line_back, line_is}
+use Rattle.guards_audit.proofs.LinesBack.{line_back, line_is}
 
 -- ---- one line
 
 -- a line that is good, and the place after it
 record GoesTo (M : MissionValue) (place : Place) (text : TextValue) (next : Place) : Type 0 where
   line : ReportLine
-  spelled : text ≡ spelling line
+  spelled : text ≡ line_spelling line
   fitting : IsTrue (fits M place line)
-  goes : after M place line ≡ next
+  goes : following_place M place line ≡ next
 
-suiting : (M : MissionValue) (place next : Place) (text : TextValue) (line : ReportLine) (b : Bool) → suits M place line ≡ b → (text ≡ spelling line) × (is_form line ≡ true) →
-    cond b (Some (after M place line)) None ≡ Some next → GoesTo M place text next
+suiting : (M : MissionValue) (place next : Place) (text : TextValue) (line : ReportLine) (b : Bool) → suits_place M place line ≡ b → (text ≡ line_spelling line) × (is_form line ≡ true) →
+    cond b (Some (following_place M place line)) None ≡ Some next → GoesTo M place text next
 suiting M place next text line true e is h =
-    record { line = line; spelled = is.0; fitting = and_true (is_form line) (suits M place line) is.1 e; goes = the_same (after M place line) h }
+    record { line = line; spelled = is.0; fitting = and_true (is_form line) (suits_place M place line) is.1 e; goes = the_same (following_place M place line) h }
   where
     the_same : (p : Place) → Some p ≡ Some next → p ≡ next
     the_same p k = cc
@@ -31,30 +31,30 @@ suiting M place next text line false e is h = absurd (none h)
     none : None ≡ Some next → ⊥
     none k = cc
 
-going : (M : MissionValue) (place next : Place) (text : TextValue) (o : Option ReportLine) → line_of text ≡ o → option_and_then (place_by M place) o ≡ Some next → GoesTo M place text next
+going : (M : MissionValue) (place next : Place) (text : TextValue) (o : Option ReportLine) → line_read text ≡ o → option_and_then (place_by M place) o ≡ Some next → GoesTo M place text next
 going M place next text None e h = absurd (none h)
   where
     none : None ≡ Some next → ⊥
     none k = cc
-going M place next text (Some line) e h = suiting M place next text line (suits M place line) refl (line_is text line e) h
+going M place next text (Some line) e h = suiting M place next text line (suits_place M place line) refl (line_is text line e) h
 
 goes_to : (M : MissionValue) (place next : Place) (text : TextValue) → place_after M place text ≡ Some next → GoesTo M place text next
 unfolding place_after
-goes_to M place next text h = going M place next text (line_of text) refl h
+goes_to M place next text h = going M place next text (line_read text) refl h
 
 -- a line that is good goes on
-good_goes : (M : MissionValue) (place : Place) (text : TextValue) (line : ReportLine) → text ≡ spelling line → IsTrue (fits M place line) → place_after M place text ≡ Some (after M place line)
+good_goes : (M : MissionValue) (place : Place) (text : TextValue) (line : ReportLine) → text ≡ line_spelling line → IsTrue (fits M place line) → place_after M place text ≡ Some (following_place M place line)
 unfolding place_after
 good_goes M place text line h k =
-    let parts = both (is_form line) (suits M place line) k in
-    ap (λ t. option_and_then (place_by M place) (line_of t)) h
+    let parts = both (is_form line) (suits_place M place line) k in
+    ap (λ t. option_and_then (place_by M place) (line_read t)) h
     ∙ ap (option_and_then (place_by M place)) (line_back line parts.0)
-    ∙ ap (λ b. cond b (Some (after M place line)) None) parts.1
+    ∙ ap (λ b. cond b (Some (following_place M place line)) None) parts.1
 
 not_good : (M : MissionValue) (place : Place) (text : TextValue) → place_after M place text ≡ None → IsGood M place text → ⊥
 not_good M place text h good = none (sym (good_goes M place text good.0 good.1 good.2) ∙ h)
   where
-    none : Some (after M place good.0) ≡ None → ⊥
+    none : Some (following_place M place good.0) ≡ None → ⊥
     none k = cc
 
 -- ---- all lines
@@ -80,7 +80,7 @@ record BreaksAfter (M : MissionValue) (place : Place) (texts : List TextValue) (
   last : Place
   lines : texts ≡ before ++ rest
   good : AreGood M place before last
-  breaks : BreaksOff M last rest
+  breaks : TraceBreaksOff M last rest
   counted : n ≡ k + length before
 
 module _ (M : MissionValue) where
@@ -124,7 +124,7 @@ module _ (M : MissionValue) where
   good_none : (texts : List TextValue) (k : ℕ) (place : Place) → AreGood M place texts at_end → first_bad_from M k place texts ≡ None
   good_none [] k place h = ap (λ (p : Place). cond (is_at_end p) None (Some k)) h
   good_none (text ∷ texts) k place h =
-      ap (λ o. or_on k o (λ next. first_bad_from M (suc k) next texts)) (good_goes M place text h.0 h.1 h.2) ∙ good_none texts (suc k) (after M place h.0) h.3
+      ap (λ o. or_on k o (λ next. first_bad_from M (suc k) next texts)) (good_goes M place text h.0 h.1 h.2) ∙ good_none texts (suc k) (following_place M place h.0) h.3
 
   not_at_end : (place : Place) (k : ℕ) → (place ≡ at_end → ⊥) → cond (is_at_end place) None (Some k) ≡ Some k
   not_at_end at_head k h = refl
@@ -138,15 +138,15 @@ module _ (M : MissionValue) where
   stops_by k place text texts None e h = refl
   stops_by k place text texts (Some next) e h = let g = goes_to M place next text e in absurd (h (g.line, g.spelled, g.fitting))
 
-  stops : (rest : List TextValue) (k : ℕ) (place : Place) → BreaksOff M place rest → first_bad_from M k place rest ≡ Some k
+  stops : (rest : List TextValue) (k : ℕ) (place : Place) → TraceBreaksOff M place rest → first_bad_from M k place rest ≡ Some k
   stops [] k place h = not_at_end place k h
   stops (text ∷ texts) k place h = stops_by k place text texts (place_after M place text) refl h
 
-  breaks_some : (before rest : List TextValue) (k : ℕ) (place last : Place) → AreGood M place before last → BreaksOff M last rest → first_bad_from M k place (before ++ rest) ≡ Some (k + length before)
-  breaks_some [] rest k place last good breaks = stops rest k place (subst (λ (p : Place). BreaksOff M p rest) (sym good) breaks) ∙ ap (λ j. Some j) (omega arith)
+  breaks_some : (before rest : List TextValue) (k : ℕ) (place last : Place) → AreGood M place before last → TraceBreaksOff M last rest → first_bad_from M k place (before ++ rest) ≡ Some (k + length before)
+  breaks_some [] rest k place last good breaks = stops rest k place (subst (λ (p : Place). TraceBreaksOff M p rest) (sym good) breaks) ∙ ap (λ j. Some j) (omega arith)
   breaks_some (text ∷ before) rest k place last good breaks =
       ap (λ o. or_on k o (λ next. first_bad_from M (suc k) next (before ++ rest))) (good_goes M place text good.0 good.1 good.2)
-      ∙ breaks_some before rest (suc k) (after M place good.0) last good.3 breaks ∙ ap (λ j. Some j) (omega arith)
+      ∙ breaks_some before rest (suc k) (following_place M place good.0) last good.3 breaks ∙ ap (λ j. Some j) (omega arith)
 
   -- ---- the verdict
 

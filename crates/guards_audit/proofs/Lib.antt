@@ -1,1 +1,5 @@
 pub mod Judging
+pub mod PrintedLines
+pub mod ReadBack
+pub mod LinesBack
+pub mod ReportsBack

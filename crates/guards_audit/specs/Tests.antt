@@ -12,13 +12,13 @@ use Rattle.guards_model.specs.Transfers.{TransferValue}
 use Rattle.guards_model.specs.Decisions.{joined_of}
 use Rattle.guards_model.specs.Rounds.{is_task, is_sweep}
 use Rattle.guards_model.specs.Texts.{LineValue, TraceValue, RecordValue}
-use Rattle.report_lines.specs.Lines.{is_empty}
-use Rattle.guards_audit.specs.Told.{Told, next_number, first_line, active_told, counts_told, context_told, words_told, plan_told, number_remaining, rest_told}
+use Rattle.guards_audit.specs.Lines.{is_empty}
+use Rattle.guards_audit.specs.Told.{Told, next_cycle_number, first_line, active_told, counts_told, context_told, words_told, plan_told, number_remaining, rest_told}
 
 -- ---- lists that are the same
 
-abbrev pub same_words : List ℤ → List ℤ → Bool
-same_words words others = pointwise int_eq words others
+abbrev pub are_same_words : List ℤ → List ℤ → Bool
+are_same_words words others = pointwise int_eq words others
 
 abbrev pub same_vote : Option ℤ → Option ℤ → Bool
 same_vote None None = true
@@ -41,9 +41,9 @@ continues None t = false
 continues (Some before) t = before.start == t.start && list_all (has before.targets) t.targets
 
 -- the transfer is the one of the cycle before, in which no channel joined
-abbrev pub goes_on : Told → TransferValue → Bool
-goes_on [] t = false
-goes_on (r ∷ told) t = is_empty r.joined && continues r.transfer t
+abbrev pub transfer_goes_on : Told → TransferValue → Bool
+transfer_goes_on [] t = false
+transfer_goes_on (r ∷ told) t = is_empty r.joined && continues r.transfer t
 
 -- a channel that may be restored
 abbrev pub is_passive : MissionValue → ChannelSet → Channel → Bool
@@ -54,11 +54,11 @@ abbrev pub transfer_fits : MissionValue → Told → ChannelSet → Option Trans
 transfer_fits M told active None = true
 transfer_fits M told active (Some t) =
     within 1 M.rules.returning (length t.targets)
-    && (list_all (is_passive M active) t.targets && (t.start == next_number told || goes_on told t))
+    && (list_all (is_passive M active) t.targets && (t.start == next_cycle_number told || transfer_goes_on told t))
 
 abbrev pub cycle_fits : MissionValue → Told → ℕ → ChannelSet → Option TransferValue → Bool
 cycle_fits M told c active transfer =
-    (nat_lt c M.cycles && c == next_number told)
+    (nat_lt c M.cycles && c == next_cycle_number told)
     && (bytes_eq active (active_told M told) && transfer_fits M told active transfer)
 
 -- ---- the line of a channel
@@ -70,7 +70,7 @@ comes_next active before p = has active p && list_all (λ q. nat_lt q p) before
 -- it says what the first line of the cycle says
 abbrev pub says_same : LineValue → LineValue → Bool
 says_same l first =
-    (same_words l.inputs first.inputs && same_votes l.votes first.votes)
+    (are_same_words l.inputs first.inputs && same_votes l.votes first.votes)
     && (bytes_eq l.judged first.judged && bytes_eq l.counts first.counts)
 
 -- the counts are those of the printed judgement, active set and earlier counts
@@ -85,7 +85,7 @@ abbrev pub votes_fit : MissionValue → Told → LineValue → Bool
 votes_fit M told l =
     same_votes l.votes
     (map (λ w. Some w)
-    (output_words M (whole (cycle_writes M (next_number told)) (context_told M told) (next_number told) l.inputs)))
+    (output_words M (whole (cycle_writes M (next_cycle_number told)) (context_told M told) (next_cycle_number told) l.inputs)))
 
 -- as many inputs as the mission's width; only active channels are judged
 abbrev pub first_fits : MissionValue → Told → RecordValue → LineValue → Bool
@@ -107,7 +107,7 @@ channel_fits M told r l =
 abbrev pub steps_fit : MissionValue → Told → RecordValue → TraceValue → Bool
 steps_fit M told r t =
     (not (is_empty r.lines) && comes_next r.active (map (λ trace. trace.channel) r.traces) t.channel)
-    && (count_by is_task t.steps == length (cycle_writes M (next_number told))
+    && (count_by is_task t.steps == length (cycle_writes M (next_cycle_number told))
     && count_by is_sweep t.steps == length (plan_told M told r.transfer))
 
 -- ---- the line with which a cycle ends
@@ -139,4 +139,4 @@ end_fits M told r removed joined remaining =
 -- the words are those that the told cycles give; without an actuator there is no such line
 abbrev pub words_fit : Option ActuatorValue → Told → List ℤ → Bool
 words_fit None told words = false
-words_fit (Some a) told words = same_words words (words_told a told)
+words_fit (Some a) told words = are_same_words words (words_told a told)

@@ -14,16 +14,16 @@ abbrev pub Told : Type 0
 Told = List RecordValue
 
 -- the number of the next cycle, which is how many were told
-abbrev pub next_number : Told → ℕ
-next_number told = length told
+abbrev pub next_cycle_number : Told → ℕ
+next_cycle_number told = length told
 
 -- a line of which nothing is told
-abbrev pub no_line : LineValue
-no_line = record { channel = 0; inputs = []; votes = []; judged = []; counts = [] }
+abbrev pub blank_line : LineValue
+blank_line = record { channel = 0; inputs = []; votes = []; judged = []; counts = [] }
 
 -- the first line of a channel in a cycle: all others of it say the same
 abbrev pub first_line : RecordValue → LineValue
-first_line r = unwrap_or (slice_get r.lines 0) no_line
+first_line r = unwrap_or (slice_get r.lines 0) blank_line
 
 -- the active channels of the next cycle: all, or those printed in the cycle before, without the printed removed and
 -- with the printed joined
@@ -40,7 +40,7 @@ counts_told M (r ∷ told) = counts_carried (active_told M (r ∷ told)) r.joine
 abbrev pub context_told : MissionValue → Told → ContextValue
 context_told M [] = M.initial
 context_told M (r ∷ told) =
-    whole (cycle_writes M (next_number told)) (context_told M told) (next_number told) (first_line r).inputs
+    whole (cycle_writes M (next_cycle_number told)) (context_told M told) (next_cycle_number told) (first_line r).inputs
 
 -- the words of an actuator after the told cycles: each cycle moves them towards its printed votes
 abbrev pub words_told : ActuatorValue → Told → List ℤ
@@ -51,11 +51,11 @@ words_told a (r ∷ told) = words_towards a.steps (words_told a told) (voted_wor
 abbrev pub swept_told : MissionValue → ℕ → Told → List TransferCycle
 swept_told M s [] = []
 swept_told M s (r ∷ told) =
-    if nat_le s (next_number told)
+    if nat_le s (next_cycle_number told)
     then (let earlier : List TransferCycle = swept_told M s told in
     record {
       planned = planned_blocks M.rules.blocks M.rules.sweep earlier;
-      written = written_blocks M (next_number told);
+      written = written_blocks M (next_cycle_number told);
     } ∷ earlier)
     else []
 
@@ -68,7 +68,7 @@ plan_told M told (Some t) = planned_blocks M.rules.blocks M.rules.sweep (swept_t
 abbrev pub remaining_told : MissionValue → Told → TransferValue → List ℕ
 remaining_told M told t =
     remaining_blocks M.rules.blocks
-    (record { planned = plan_told M told (Some t); written = written_blocks M (next_number told) }
+    (record { planned = plan_told M told (Some t); written = written_blocks M (next_cycle_number told) }
     ∷ swept_told M t.start told)
 
 -- how many remain, where a transfer runs

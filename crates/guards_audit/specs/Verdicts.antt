@@ -2,16 +2,16 @@
 use Rattle.std.specs.Prelude.{ℕ, suc, Bool, true, false, List, [], ◌∷◌, Option, Some, None, option_and_then, if◌then◌else◌}
 use Rattle.guards_model.specs.Missions.{MissionValue}
 use Rattle.guards_model.specs.Texts.{TextValue}
-use Rattle.report_lines.specs.Lines.{ReportLine, lines_in}
-use Rattle.guards_audit.specs.Consistency.{Place, at_head, at_end, suits, after}
-use Rattle.report_lines.specs.Reading.{line_of}
+use Rattle.guards_audit.specs.Lines.{ReportLine, lines_in}
+use Rattle.guards_audit.specs.Consistency.{Place, at_head, at_end, suits_place, following_place}
+use Rattle.guards_audit.specs.Reading.{line_read}
 
 -- the place after a line that suits a place, or none
 abbrev pub place_by : MissionValue → Place → ReportLine → Option Place
-place_by M place line = if suits M place line then Some (after M place line) else None
+place_by M place line = if suits_place M place line then Some (following_place M place line) else None
 
 unfoldable pub place_after : MissionValue → Place → TextValue → Option Place
-place_after M place text = option_and_then (place_by M place) (line_of text)
+place_after M place text = option_and_then (place_by M place) (line_read text)
 
 abbrev pub is_at_end : Place → Bool
 is_at_end at_end = true

@@ -13,7 +13,7 @@ use Rattle.guards_model.specs.Modes.{is_up}
 use Rattle.guards_model.specs.Damages.{damaged_by}
 use Rattle.guards_model.specs.Rounds.{context_at}
 use Rattle.guards_runs.specs.Cycles.{is_whole, context_after, next_cycle, cycles_before}
-use Rattle.guards_runs.specs.Due.{context_or_none, origin_of}
+use Rattle.guards_runs.specs.Due.{context_or_none, due_origin}
 use Rattle.guards_model.proofs.BoolTests.{both, and_true}
 use Rattle.guards_model.proofs.ValueWords.{is_block, block_in, apply_whole}
 use Rattle.guards_laws.proofs.LogGrows.{length-cycles_before}
@@ -117,5 +117,5 @@ module _ (M : MissionValue) (L : Log) (mission : IsMission M) where
   held_good n q low early = held_from n q low early (before_good n q low early)
 
   -- after any number of writes of a round
-  pub round_good : (n : ℕ) (q : Channel) (k : ℕ) → q < 7 → n ≤ M.cycles → list_all is_block (context_at (origin_of M (cycles_before M L n) (next_cycle M L (cycles_before M L n)) q) k) ≡ true
+  pub round_good : (n : ℕ) (q : Channel) (k : ℕ) → q < 7 → n ≤ M.cycles → list_all is_block (context_at (due_origin M (cycles_before M L n) (next_cycle M L (cycles_before M L n)) q) k) ≡ true
   round_good n q k low early = writes_good n k (context_or_none (place_or (next_cycle M L (cycles_before M L n)).contexts_before q None)) early (before_good n q low early)

@@ -11,8 +11,8 @@ use Rattle.guards_model.specs.Decisions.{DecisionValue, joined_of, if_empty}
 use Rattle.guards_model.specs.Tags.{blocks_in, tags_of, tags_noted, tags_closed}
 use Rattle.guards_model.specs.Controls.{SweepingValue, ControlValue, ClosedValue, transfer_in, tags_for, sweeping_for, planned_by, decided_by, control_decided, tags_after, sweeping_after, joined_by, goes_on, control_closed, start_if_joined, rest_if_joined, closed_by}
 use Rattle.guards_model.specs.Controls as controls
-use Rattle.guards_runs.specs.Cycles.{Cycle, Past, opening_of, agreement_of, decision_of, work_of, entries_of, cycle_from, next_cycle, cycles_before, active_set, fresh_set, base_counts, running_transfer, swept_since, remaining_of, plan_of}
-use Rattle.guards_runs.specs.ControlFacts.{sweeping_of, control_at, if_joined, closed_of, ControlFollows}
+use Rattle.guards_runs.specs.Cycles.{Cycle, Past, cycle_start_of, agreement_of, decision_of, work_of, entries_of, cycle_from, next_cycle, cycles_before, active_set, fresh_set, base_counts, running_transfer, swept_since, remaining_of, plan_of}
+use Rattle.guards_runs.specs.ControlFacts.{sweeping_of, control_after_past, if_joined, closed_of, ControlFollows}
 use Rattle.guards_runs.specs.Report.{remaining_in}
 use Rattle.guards_model.proofs.TagLaw.{remains-step}
 use Rattle.guards_model.proofs.TagSteps.{filter_alike, tags_plan, tags_close, stand_noted}
@@ -83,8 +83,8 @@ transfer_is M past None = refl
 transfer_is M past (Some t) = refl
 
 sweeping_is : (M : MissionValue) (past : Past) (o : Option TransferValue) →
-    ((t : TransferValue) → o ≡ Some t → tags_for M.rules.blocks (length past) (control_at M past).sweeping t ≡ tags_of M.rules.blocks (swept_since M t.start past) []) →
-    sweeping_for M.rules.blocks (length past) (control_at M past).sweeping o ≡ option_map (sweeping_of M past) o
+    ((t : TransferValue) → o ≡ Some t → tags_for M.rules.blocks (length past) (control_after_past M past).sweeping t ≡ tags_of M.rules.blocks (swept_since M t.start past) []) →
+    sweeping_for M.rules.blocks (length past) (control_after_past M past).sweeping o ≡ option_map (sweeping_of M past) o
 sweeping_is M past None tags = refl
 sweeping_is M past (Some t) tags = ap (λ s. Some (record { transfer = t; tags = s })) (tags t refl)
 
@@ -111,21 +111,21 @@ module _ (M : MissionValue) (past : Past) (agreed : Agreed) where
   decided = transfer_after M.rules.channels M.rules.returning (active_set M past) (fresh_set past) agreed (length past) (running_transfer past)
 
   abbrev plans : Option TransferValue → List ℕ
-  plans o = planned_by M.rules.sweep (sweeping_for M.rules.blocks (length past) (control_at M past).sweeping o)
+  plans o = planned_by M.rules.sweep (sweeping_for M.rules.blocks (length past) (control_after_past M past).sweeping o)
 
-  decided_as : decided_by M.rules (length past) (control_at M past) agreed ≡ decided_with M past agreed (transfer_in (control_at M past).sweeping) plans
+  decided_as : decided_by M.rules (length past) (control_after_past M past) agreed ≡ decided_with M past agreed (transfer_in (control_after_past M past).sweeping) plans
   unfolding decided_by
   decided_as = refl
 
-  facts_as : decision_of M past (opening_of M past) agreed ≡ decided_with M past agreed (running_transfer past) (plan_of M past)
-  unfolding decision_of opening_of
+  facts_as : decision_of M past (cycle_start_of M past) agreed ≡ decided_with M past agreed (running_transfer past) (plan_of M past)
+  unfolding decision_of cycle_start_of
   facts_as = refl
 
   with_plan : (a b : Option TransferValue → List ℕ) → a decided ≡ b decided → decided_with M past agreed (running_transfer past) a ≡ decided_with M past agreed (running_transfer past) b
   with_plan a b h = rw h refl
 
   -- from the same agreed words a control decides what the facts say
-  control_decides : StartsBefore past → decided_by M.rules (length past) (control_at M past) agreed ≡ decision_of M past (opening_of M past) agreed
+  control_decides : StartsBefore past → decided_by M.rules (length past) (control_after_past M past) agreed ≡ decision_of M past (cycle_start_of M past) agreed
   control_decides before =
       decided_as
       ∙ ap (λ running. decided_with M past agreed running plans) (transfer_is M past (running_transfer past))
@@ -145,7 +145,7 @@ record AreFacts (M : MissionValue) (past : Past) (e : Cycle) : Type 0 where
   active : e.active ≡ active_set M past
   remaining : e.remaining ≡ remaining_of M past e.transfer e.planned
   joined : e.joined ≡ joined_of M.rules.last e.transfer e.remaining
-  tags : (t : TransferValue) → e.transfer ≡ Some t → tags_for M.rules.blocks (length past) (control_at M past).sweeping t ≡ tags_of M.rules.blocks (swept_since M t.start past) []
+  tags : (t : TransferValue) → e.transfer ≡ Some t → tags_for M.rules.blocks (length past) (control_after_past M past).sweeping t ≡ tags_of M.rules.blocks (swept_since M t.start past) []
   started : (t : TransferValue) → e.transfer ≡ Some t → nat_le t.start (length past) ≡ true
 
 -- tags look at the members of the written blocks alone
@@ -169,10 +169,10 @@ tags_step blocks planned written cycles = ap (tags_closed planned) (tags_noted_a
 
 module _ (M : MissionValue) (past : Past) (e : Cycle) (facts : AreFacts M past e) (written : List ℕ) (same : (b : ℕ) → has written b ≡ has (written_blocks M (length past)) b) where
   abbrev k : ControlValue
-  k = control_decided M.rules (length past) (control_at M past) e.decision
+  k = control_decided M.rules (length past) (control_after_past M past) e.decision
 
   -- the transfer with its tags after the decision
-  brought : sweeping_for M.rules.blocks (length past) (control_at M past).sweeping e.transfer ≡ option_map (sweeping_of M past) e.transfer
+  brought : sweeping_for M.rules.blocks (length past) (control_after_past M past).sweeping e.transfer ≡ option_map (sweeping_of M past) e.transfer
   brought = sweeping_is M past e.transfer facts.tags
 
   swept_by : (o : Option TransferValue) → e.transfer ≡ o → sweeping_after e.planned written (option_map (sweeping_of M past) o) ≡ option_map (sweeping_of M (e ∷ past)) o
@@ -187,20 +187,20 @@ module _ (M : MissionValue) (past : Past) (e : Cycle) (facts : AreFacts M past e
       since true h = refl
       since false h = absurd cc
 
-  swept : sweeping_after e.planned written (sweeping_for M.rules.blocks (length past) (control_at M past).sweeping e.transfer) ≡ option_map (sweeping_of M (e ∷ past)) e.transfer
+  swept : sweeping_after e.planned written (sweeping_for M.rules.blocks (length past) (control_after_past M past).sweeping e.transfer) ≡ option_map (sweeping_of M (e ∷ past)) e.transfer
   swept = ap (sweeping_after e.planned written) brought ∙ swept_by e.transfer refl
 
-  remains_by : (o : Option TransferValue) → e.transfer ≡ o → controls.remaining_in (option_map (sweeping_of M (e ∷ past)) o) ≡ remaining_of M past o e.planned
+  remains_by : (o : Option TransferValue) → e.transfer ≡ o → controls.blocks_remaining (option_map (sweeping_of M (e ∷ past)) o) ≡ remaining_of M past o e.planned
   unfolding tags_of
   remains_by None h = refl
   remains_by (Some t) h = rw (facts.started t h) refl
 
-  remains_are : controls.remaining_in (option_map (sweeping_of M (e ∷ past)) e.transfer) ≡ e.remaining
+  remains_are : controls.blocks_remaining (option_map (sweeping_of M (e ∷ past)) e.transfer) ≡ e.remaining
   remains_are = remains_by e.transfer refl ∙ sym facts.remaining
 
   joined_is : joined_by M.rules.last (option_map (sweeping_of M (e ∷ past)) e.transfer) ≡ e.joined
   joined_is =
-      ap (λ o. joined_of M.rules.last o (controls.remaining_in (option_map (sweeping_of M (e ∷ past)) e.transfer))) (transfer_is M (e ∷ past) e.transfer)
+      ap (λ o. joined_of M.rules.last o (controls.blocks_remaining (option_map (sweeping_of M (e ∷ past)) e.transfer))) (transfer_is M (e ∷ past) e.transfer)
       ∙ ap (joined_of M.rules.last e.transfer) remains_are
       ∙ sym facts.joined
 
@@ -219,13 +219,13 @@ module _ (M : MissionValue) (past : Past) (e : Cycle) (facts : AreFacts M past e
       }
 
   closed_as : control_closed M.rules.last e.removed e.planned written k
-      ≡ closed_with (active_set M past) (sweeping_after e.planned written (sweeping_for M.rules.blocks (length past) (control_at M past).sweeping e.transfer))
-      (joined_by M.rules.last (sweeping_after e.planned written (sweeping_for M.rules.blocks (length past) (control_at M past).sweeping e.transfer)))
+      ≡ closed_with (active_set M past) (sweeping_after e.planned written (sweeping_for M.rules.blocks (length past) (control_after_past M past).sweeping e.transfer))
+      (joined_by M.rules.last (sweeping_after e.planned written (sweeping_for M.rules.blocks (length past) (control_after_past M past).sweeping e.transfer)))
   unfolding control_closed control_decided
   closed_as = refl
 
   -- the control of the next cycle
-  control_closes : control_closed M.rules.last e.removed e.planned written k ≡ control_at M (e ∷ past)
+  control_closes : control_closed M.rules.last e.removed e.planned written k ≡ control_after_past M (e ∷ past)
   control_closes =
       closed_as
       ∙ ap (λ s. closed_with (active_set M past) s (joined_by M.rules.last s)) swept
@@ -245,8 +245,8 @@ module _ (M : MissionValue) (past : Past) (e : Cycle) (facts : AreFacts M past e
       }
 
   answer_as : closed_by M.rules.last e.planned written k
-      ≡ answer_with (sweeping_after e.planned written (sweeping_for M.rules.blocks (length past) (control_at M past).sweeping e.transfer))
-      (joined_by M.rules.last (sweeping_after e.planned written (sweeping_for M.rules.blocks (length past) (control_at M past).sweeping e.transfer)))
+      ≡ answer_with (sweeping_after e.planned written (sweeping_for M.rules.blocks (length past) (control_after_past M past).sweeping e.transfer))
+      (joined_by M.rules.last (sweeping_after e.planned written (sweeping_for M.rules.blocks (length past) (control_after_past M past).sweeping e.transfer)))
   unfolding closed_by control_decided
   answer_as = refl
 
@@ -255,11 +255,11 @@ module _ (M : MissionValue) (past : Past) (e : Cycle) (facts : AreFacts M past e
   start_alike (q ∷ joined) None = refl
   start_alike (q ∷ joined) (Some t) = refl
 
-  rest_alike : (joined : ChannelSet) (s : Option SweepingValue) (rest : List ℕ) → controls.remaining_in s ≡ rest → rest_if_joined joined s ≡ if_joined joined rest []
+  rest_alike : (joined : ChannelSet) (s : Option SweepingValue) (rest : List ℕ) → controls.blocks_remaining s ≡ rest → rest_if_joined joined s ≡ if_joined joined rest []
   rest_alike [] s rest h = refl
   rest_alike (q ∷ joined) s rest h = h
 
-  count_by : (o : Option TransferValue) (rest : List ℕ) → controls.remaining_in (option_map (sweeping_of M (e ∷ past)) o) ≡ rest →
+  count_by : (o : Option TransferValue) (rest : List ℕ) → controls.blocks_remaining (option_map (sweeping_of M (e ∷ past)) o) ≡ rest →
       option_map (λ s. length s.tags.remaining) (option_map (sweeping_of M (e ∷ past)) o) ≡ option_map (λ t. length rest) o
   count_by None rest h = refl
   count_by (Some t) rest h = ap (λ xs. Some (length xs)) h
@@ -279,14 +279,14 @@ module _ (M : MissionValue) (past : Past) (e : Cycle) (facts : AreFacts M past e
 
 module _ (M : MissionValue) (L : Log) (past : Past) where
   start_now : (t : TransferValue) → (next_cycle M L past).transfer ≡ Some t → StartOf (running_transfer past) (length past) t
-  unfolding cycle_from decision_of opening_of
+  unfolding cycle_from decision_of cycle_start_of
   start_now t h =
-      let o = opening_of M past in
+      let o = cycle_start_of M past in
       let agreed = (agreement_of M (entries_of (length past) L) past o).agreed in
       start_decided o.active (new_targets M.rules.channels M.rules.returning o.active o.fresh agreed) agreed (length past) (running_transfer past) t h
 
   active_is : (next_cycle M L past).active ≡ active_set M past
-  unfolding cycle_from opening_of
+  unfolding cycle_from cycle_start_of
   active_is = refl
 
   remaining_is : (next_cycle M L past).remaining ≡ remaining_of M past (next_cycle M L past).transfer (next_cycle M L past).planned
@@ -297,7 +297,7 @@ module _ (M : MissionValue) (L : Log) (past : Past) where
   unfolding cycle_from work_of
   joined_now = refl
 
-  opening_is : (next_cycle M L past).opening ≡ opening_of M past
+  opening_is : (next_cycle M L past).opening ≡ cycle_start_of M past
   unfolding cycle_from
   opening_is = refl
 

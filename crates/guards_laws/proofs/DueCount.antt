@@ -8,22 +8,23 @@ use Rattle.guards_model.specs.declared.Slot.{Slot}
 use Rattle.guards_model.specs.declared.Slot.TheVariants.{Request, Round1, Round2, Round3, Tasks, Vote, Sweep, Final, Switch, Output}
 use Rattle.guards_model.specs.Words.{is_word}
 use Rattle.guards_model.specs.Channels.{Channel, has, place_or}
-use Rattle.guards_model.specs.Contexts.{word_at}
+use Rattle.guards_model.specs.Contexts.{context_word}
 use Rattle.guards_model.specs.Missions.{MissionValue, IsMission, format_of, within, output_words}
 use Rattle.guards_model.specs.Frames.{SourceValue, between, is_set, absent_or, fits_u32, body_in_range, words_in_range}
 use Rattle.guards_model.specs.Network.{Log}
 use Rattle.guards_model.specs.OralMessages.{PathValue, held_value}
 use Rattle.guards_model.specs.Modes.{is_up}
-use Rattle.guards_runs.specs.Cycles.{Cycle, Past, starts_to, starts_of, held_start, joins_since, active_set, source_word, received_items, items_in, mode_in, opening_of, cycle_from, next_cycle, cycles_before}
-use Rattle.guards_runs.specs.Due.{context_or_none, exchange_of, owed, origin_of}
+use Rattle.guards_runs.specs.Cycles.{Cycle, Past, starts_to, starts_of, held_start, joins_since, active_set, source_word, received_items, items_in, mode_in, cycle_start_of, cycle_from, next_cycle, cycles_before}
+use Rattle.guards_runs.specs.Due.{context_or_none, exchange_of, owed, due_origin}
 use Rattle.guards_runs.specs.SlotFacts.{IsSent, Counts}
 use Rattle.guards_model.proofs.BoolTests.{both, and_true}
 use Rattle.guards_model.proofs.ListTests.{all-map, weaken}
 use Rattle.guards_model.proofs.CopyPlaces.{first_places, first_in_order}
 use Rattle.guards_model.proofs.ValueWords.{word_at_in}
 use Rattle.guards_laws.proofs.WithinChannels.{active_is_set, active_within}
-use Rattle.guards_laws.proofs.WordRanges.{is_fine, source_word_fine, said_fine, fine_in_range}
-use Rattle.guards_laws.proofs.ExchangeRange.{exchange_good}
+use Rattle.guards_laws.proofs.WordRanges.{source_word_fine, said_fine}
+use Rattle.guards_model.proofs.FineWords.{is_fine, fine_in_range}
+use Rattle.guards_model.proofs.ExchangeRange.{exchange_good}
 use Rattle.guards_laws.proofs.ContextsGood.{held_good}
 use Rattle.guards_laws.proofs.InRange.{sweep_fits, final_fits, frame_good, target_of, number_fits}
 
@@ -57,7 +58,7 @@ module _ (M : MissionValue) (L : Log) (mission : IsMission M) (n : ℕ) (h : n <
   e = next_cycle M L past
 
   active_is : e.active ≡ active_set M past
-  unfolding cycle_from opening_of
+  unfolding cycle_from cycle_start_of
   active_is = refl
 
   active_now : is_set e.active ≡ true
@@ -105,8 +106,8 @@ module _ (M : MissionValue) (L : Log) (mission : IsMission M) (n : ℕ) (h : n <
       let ctx = context_or_none (place_or e.contexts_after q None) in
       let outputs = both (within 1 8 (length M.outputs)) (list_all (λ o. nat_lt o.0 M.rules.blocks && nat_lt o.1 8) M.outputs) mission.outputs in
       and_true (between 1 8 (length (output_words M ctx))) (list_all is_word (output_words M ctx))
-      (subst (λ k. between 1 8 k ≡ true) (sym (length-map M.outputs (λ o. word_at ctx o.0 o.1))) outputs.0)
-      (all-map is_word (λ o. word_at ctx o.0 o.1) M.outputs (λ o. word_at_in ctx o.0 o.1 (held_good M L mission n q low early)))
+      (subst (λ k. between 1 8 k ≡ true) (sym (length-map M.outputs (λ o. context_word ctx o.0 o.1))) outputs.0)
+      (all-map is_word (λ o. context_word ctx o.0 o.1) M.outputs (λ o. word_at_in ctx o.0 o.1 (held_good M L mission n q low early)))
 
   -- ---- each slot
 
@@ -121,14 +122,14 @@ module _ (M : MissionValue) (L : Log) (mission : IsMission M) (n : ℕ) (h : n <
       no k = cc
   frames_count Vote from to places sent =
       counts_if Vote from to places sent.sender (vote_fits from sent.sender)
-      (eq-eqb (length (output_words M (context_or_none (place_or e.contexts_after from None)))) (length M.outputs) (length-map M.outputs (λ o. word_at (context_or_none (place_or e.contexts_after from None)) o.0 o.1)))
+      (eq-eqb (length (output_words M (context_or_none (place_or e.contexts_after from None)))) (length M.outputs) (length-map M.outputs (λ o. context_word (context_or_none (place_or e.contexts_after from None)) o.0 o.1)))
   frames_count Sweep from to places sent =
       let tr = target_of M L mission to e.transfer sent.receives in
       let fits = sweep_fits M L mission n h tr.transfer to from tr.runs tr.target sent.sender places (sent.in_order refl) in
       let parts = both _ _ fits in
       record { spelled = parts.0; suiting = parts.1 }
   frames_count Final from to places sent =
-      let o = origin_of M past e from in
+      let o = due_origin M past e from in
       let fits = final_fits M L mission n h to from sent.receives sent.sender (first_places o) (first_in_order o) in
       let parts = both _ _ fits in
       record { spelled = parts.0; suiting = parts.1 }

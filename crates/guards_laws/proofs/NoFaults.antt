@@ -21,7 +21,7 @@ use Rattle.guards_model.specs.Diagnosis.{count_step, asks, counts_of}
 use Rattle.guards_model.specs.Transfers.{transfer_to, transfer_after}
 use Rattle.guards_model.specs.Decisions.{joined_of, request_code}
 use Rattle.guards_model.specs.Texts.{StopValue}
-use Rattle.guards_runs.specs.Cycles.{Cycle, Past, mode_in, is_damaged, is_whole, active_set, base_counts, running_transfer, mode_after, was_damaged, heard_before, source_word, received_body, opening_of, agreement_of, decision_of, work_of, cycle_from, next_cycle, cycles_before, entries_of}
+use Rattle.guards_runs.specs.Cycles.{Cycle, Past, mode_in, is_damaged, is_whole, active_set, base_counts, running_transfer, mode_after, was_damaged, heard_before, source_word, received_body, cycle_start_of, agreement_of, decision_of, work_of, cycle_from, next_cycle, cycles_before, entries_of}
 use Rattle.guards_runs.specs.Disturbed.{is_charge, differs_from, disturbed_channels, halts, stop_in, stop_of, first_of_two}
 use Rattle.guards_runs.specs.Due.{Carry, IsDue, is_sender, slot_carries, cycle_carries, carries_frames, receivers}
 use Rattle.guards_runs.specs.Promises.{EachCycle, was_undisturbed_or_absent, HasRun, Agrees}
@@ -343,7 +343,7 @@ module _ (M : MissionValue) (L : Log) (mission : IsMission M) (faultless : IsFau
           agreed_on.innocent q (and_true (has e.active q) (not (has (disturbed_channels c e Switch) q)) member (ap (λ s. not (has s q)) (undisturbed Switch refl))) (calm.quiet q)
 
       pub counts_are : e.counts ≡ counts_of M.rules.law M.rules.keep M.rules.decrement e.active e.judged (base_counts M past)
-      unfolding cycle_from decision_of opening_of
+      unfolding cycle_from decision_of cycle_start_of
       counts_are = refl
 
       pub uncounted : (q : Channel) → place_or e.counts q 0 ≡ 0
@@ -369,7 +369,7 @@ module _ (M : MissionValue) (L : Log) (mission : IsMission M) (faultless : IsFau
       none_asks xs = filter_alike (asks e.active e.fresh e.agreed) (λ q. false) xs (λ q member. unasked q) ∙ filter_none xs
 
       removed_are : e.removed ≡ take (length e.active - 3) (filter (λ q. nat_le M.rules.threshold (place_or e.counts q 0) || asks e.active e.fresh e.agreed q) e.active)
-      unfolding cycle_from decision_of opening_of agreement_of
+      unfolding cycle_from decision_of cycle_start_of agreement_of
       removed_are = refl
 
       few_counts : (q : Channel) → (nat_le M.rules.threshold (place_or e.counts q 0) || asks e.active e.fresh e.agreed q) ≡ false
@@ -385,7 +385,7 @@ module _ (M : MissionValue) (L : Log) (mission : IsMission M) (faultless : IsFau
           ∙ take_nil (length e.active - 3)
 
       transfer_is : e.transfer ≡ transfer_after M.rules.channels M.rules.returning e.active e.fresh e.agreed c (running_transfer past)
-      unfolding cycle_from decision_of opening_of agreement_of
+      unfolding cycle_from decision_of cycle_start_of agreement_of
       transfer_is = refl
 
       pub untransferred : e.transfer ≡ None

@@ -21,9 +21,9 @@ use Rattle.guards_model.specs.Rounds.{Origin, copies_at}
 use Rattle.guards_model.specs.Network.{Log, AreAfter, items_of, ballot_of, have_of}
 use Rattle.guards_model.specs.OralMessages.{PathValue, word_for, held_value, items_owed, paths}
 use Rattle.guards_model.specs.Modes.{is_up}
-use Rattle.guards_runs.specs.Cycles.{Cycle, Past, Agreement, first_up, mode_in, is_damaged, source_word, received_items, received_body, items_in, opening_of, agreement_of, decision_of, work_of, cycle_from, remaining_of}
+use Rattle.guards_runs.specs.Cycles.{Cycle, Past, Agreement, first_up, mode_in, is_damaged, source_word, received_items, received_body, items_in, cycle_start_of, agreement_of, decision_of, work_of, cycle_from, remaining_of}
 use Rattle.guards_runs.specs.Disturbed.{is_charge, differs_from, disturbed_channels}
-use Rattle.guards_runs.specs.Due.{Carry, targets_of, context_or_none, copy_from, slot_carries, owed, origin_of, exchange_of, control_after, is_sender, receivers}
+use Rattle.guards_runs.specs.Due.{Carry, targets_of, context_or_none, copy_from, slot_carries, owed, due_origin, exchange_of, control_after, is_sender, receivers}
 use Rattle.guards_runs.specs.SlotFacts.{AreFromPlace, FramesStay, StopStays, FactsStay}
 use Rattle.guards_runs.specs.Restoration.{sweeps_at, finals_at}
 use Rattle.guards_model.specs.Replicas.{sweep_content, final_content}
@@ -150,7 +150,7 @@ module _ (M : MissionValue) (entries new : Log) (past : Past) where
   exchange_stays : (round : ℕ) (q : Channel) → ((r : ℕ) (j : Channel) → 1 ≤ r → r ≤ round - 1 → had (entries ++ new) q r j ≡ had entries q r j) → exchange_of M past more round q ≡ exchange_of M past e round q
   unfolding cycle_from
   exchange_stays round q same =
-      ap (exchange_with round) (owed_alike (opening_of M past).active M.width q (source_word M past q) (had (entries ++ new) q) (had entries q) round same)
+      ap (exchange_with round) (owed_alike (cycle_start_of M past).active M.width q (source_word M past q) (had (entries ++ new) q) (had entries q) round same)
 
   -- ---- after the rounds
 
@@ -158,17 +158,17 @@ module _ (M : MissionValue) (entries new : Log) (past : Past) where
     agreement_stays : more.agreement ≡ e.agreement
     unfolding cycle_from agreement_of
     agreement_stays =
-        let o = opening_of M past in
+        let o = cycle_start_of M past in
         let A : Agreed → Agreement = λ agreed. record { agreed = agreed; inputs = inputs_of M.width agreed } in
         ap A (agreed_stays M entries new past o.active (first_up o.modes o.active) late)
 
     decision_stays : more.decision ≡ e.decision
     unfolding cycle_from
-    decision_stays = ap (λ (a : Agreement). decision_of M past (opening_of M past) a.agreed) agreement_stays
+    decision_stays = ap (λ (a : Agreement). decision_of M past (cycle_start_of M past) a.agreed) agreement_stays
 
     contexts_stay : more.contexts_after ≡ e.contexts_after
     unfolding cycle_from work_of
-    contexts_stay = ap (λ (a : Agreement). map (option_map (λ ctx. whole (cycle_writes M c) ctx c a.inputs)) (opening_of M past).contexts_before) agreement_stays
+    contexts_stay = ap (λ (a : Agreement). map (option_map (λ ctx. whole (cycle_writes M c) ctx c a.inputs)) (cycle_start_of M past).contexts_before) agreement_stays
 
     remaining_stays : more.remaining ≡ e.remaining
     unfolding cycle_from work_of
@@ -178,11 +178,11 @@ module _ (M : MissionValue) (entries new : Log) (past : Past) where
     unfolding cycle_from work_of
     joined_stays = ap (λ (d : DecisionValue). joined_of M.rules.last d.transfer (remaining_of M past d.transfer d.planned)) decision_stays
 
-    origin_stays : (q : Channel) → origin_of M past more q ≡ origin_of M past e q
+    origin_stays : (q : Channel) → due_origin M past more q ≡ due_origin M past e q
     unfolding cycle_from
     origin_stays q =
         let O : List ℤ → List ℕ → Origin =
-        λ inputs plan. record { context = context_or_none (place_or (opening_of M past).contexts_before q None); row = cycle_writes M c; cycle = c; inputs = inputs; plan = plan } in
+        λ inputs plan. record { context = context_or_none (place_or (cycle_start_of M past).contexts_before q None); row = cycle_writes M c; cycle = c; inputs = inputs; plan = plan } in
         ap (λ (a : Agreement). O a.inputs more.planned) agreement_stays ∙ ap (λ (d : DecisionValue). O e.inputs d.planned) decision_stays
 
     abbrev carries_to : List ℕ → Slot → List Carry
@@ -201,7 +201,7 @@ module _ (M : MissionValue) (entries new : Log) (past : Past) where
     unfolding cycle_from
     sweep_stays q to places =
         let B : Option TransferValue → List CopyValue → BodyValue = λ t copies. sweep_body (record { target = to; start = start_of t; copies = copies }) in
-        ap (λ (d : DecisionValue). B d.transfer (copies_at (origin_of M past more q) d.planned places)) decision_stays
+        ap (λ (d : DecisionValue). B d.transfer (copies_at (due_origin M past more q) d.planned places)) decision_stays
         ∙ ap (λ o. B e.transfer (copies_at o e.planned places)) (origin_stays q)
 
     control_stays : control_after M (more ∷ past) ≡ control_after M (e ∷ past)
@@ -210,9 +210,9 @@ module _ (M : MissionValue) (entries new : Log) (past : Past) where
         let K : DecisionValue → ChannelSet → ControlWordValue =
         λ d joined. record {
           law = M.rules.law;
-          active = active_after (opening_of M past).active d.removed joined;
+          active = active_after (cycle_start_of M past).active d.removed joined;
           fresh = joined;
-          counts = counts_carried (active_after (opening_of M past).active d.removed joined) joined d.counts;
+          counts = counts_carried (active_after (cycle_start_of M past).active d.removed joined) joined d.counts;
         } in
         ap (λ d. K d more.joined) decision_stays ∙ ap (K e.decision) joined_stays
 
@@ -271,13 +271,13 @@ module _ (M : MissionValue) (entries new : Log) (past : Past) where
   unfolding cycle_from
   disturbed_stay slot late =
       let T : Log → Channel → Bool = λ log q. (not (is_up (mode_in e q slot)) || is_damaged e q slot) || list_any (is_charge c slot q) log in
-      filter_alike (T (entries ++ new)) (T entries) (opening_of M past).active
+      filter_alike (T (entries ++ new)) (T entries) (cycle_start_of M past).active
       (λ q there. ap (λ b. (not (is_up (mode_in e q slot)) || is_damaged e q slot) || b)
       (list_any-append (is_charge c slot q) entries new ∙ ap (λ b. list_any (is_charge c slot q) entries || b) (no_later_charge slot q new late) ∙ or_false (list_any (is_charge c slot q) entries)))
 
   stop_stays : (slot : Slot) → AreFromPlace c (suc (slot_index slot)) new → StopStays M entries new past slot
   unfolding cycle_from
-  stop_stays slot late = ap (λ (D : ChannelSet). nat_le (length (opening_of M past).active) (3 * length D)) (disturbed_stay slot late)
+  stop_stays slot late = ap (λ (D : ChannelSet). nat_le (length (cycle_start_of M past).active) (3 * length D)) (disturbed_stay slot late)
 
   -- ---- what is known when a slot is over
 
@@ -290,19 +290,19 @@ module _ (M : MissionValue) (entries new : Log) (past : Past) where
 
   abbrev ballots_of : List (Option ContextValue) → (Channel → Channel → Option BodyValue) → List Ballots
   ballots_of held votes =
-      by_channel (λ p. if has (opening_of M past).active p then by_channel (λ j. if j == p then option_map (output_words M) (place_or held p None) else ballot_of (votes j p)) else [])
+      by_channel (λ p. if has (cycle_start_of M past).active p then by_channel (λ j. if j == p then option_map (output_words M) (place_or held p None) else ballot_of (votes j p)) else [])
 
   abbrev voted_of : List Ballots → List (List (Option ℤ))
-  voted_of ballots = map (vote_of (opening_of M past).active (length M.outputs)) ballots
+  voted_of ballots = map (vote_of (cycle_start_of M past).active (length M.outputs)) ballots
 
   abbrev accusations_of : List Ballots → List ChannelSet
-  accusations_of ballots = by_channel (λ p. accused_of (opening_of M past).active (place_or ballots p []) (place_or (voted_of ballots) p []))
+  accusations_of ballots = by_channel (λ p. accused_of (cycle_start_of M past).active (place_or ballots p []) (place_or (voted_of ballots) p []))
 
   module _ (slot : Slot) (late : AreFromPlace c (suc (slot_index slot)) new) where
     codes_stay : more.request_codes ≡ e.request_codes
     unfolding cycle_from work_of
     codes_stay =
-        ap (λ (f : Channel → Channel → Option BodyValue). by_channel (λ p. by_channel (λ q. request_code (opening_of M past).running q (have_of (f q p)))))
+        ap (λ (f : Channel → Channel → Option BodyValue). by_channel (λ p. by_channel (λ q. request_code (cycle_start_of M past).running q (have_of (f q p)))))
         (fun_ext (λ q. fun_ext (λ p. got_stays Request slot late (le-leb 0 (slot_index slot) (omega arith)) q p)))
 
     round3 : up_to Vote slot ≡ true → up_to Round3 slot ≡ true
@@ -325,12 +325,12 @@ module _ (M : MissionValue) (entries new : Log) (past : Past) where
     filled_stays : up_to Sweep slot ≡ true → (q : Channel) → sweeps_at M past more q ≡ sweeps_at M past e q
     unfolding cycle_from
     filled_stays h q =
-        ap (λ (f : Channel → Option BodyValue). filter_map (λ j. sweep_content (f j)) (opening_of M past).active) (fun_ext (λ j. got_stays Sweep slot late h j q))
+        ap (λ (f : Channel → Option BodyValue). filter_map (λ j. sweep_content (f j)) (cycle_start_of M past).active) (fun_ext (λ j. got_stays Sweep slot late h j q))
 
     taken_stays : up_to Final slot ≡ true → (q : Channel) → finals_at M past more q ≡ finals_at M past e q
     unfolding cycle_from
     taken_stays h q =
-        ap (λ (f : Channel → Option BodyValue). filter_map (λ j. final_content (f j)) (opening_of M past).active) (fun_ext (λ j. got_stays Final slot late h j q))
+        ap (λ (f : Channel → Option BodyValue). filter_map (λ j. final_content (f j)) (cycle_start_of M past).active) (fun_ext (λ j. got_stays Final slot late h j q))
 
     known_stays : FactsStay M entries new past slot
     known_stays =

@@ -10,7 +10,7 @@ use Rattle.guards_model.specs.Network.{Log}
 use Rattle.guards_model.specs.Frames.{is_set, is_distinct}
 use Rattle.guards_model.specs.Diagnosis.{asks}
 use Rattle.guards_model.specs.Decisions.{joined_of}
-use Rattle.guards_runs.specs.Cycles.{Past, active_set, opening_of, agreement_of, decision_of, work_of, cycle_from, next_cycle, cycles_before}
+use Rattle.guards_runs.specs.Cycles.{Past, active_set, cycle_start_of, agreement_of, decision_of, work_of, cycle_from, next_cycle, cycles_before}
 use Rattle.guards_model.proofs.Tables.{has-filter, has-channels_where}
 use Rattle.guards_model.proofs.BoolTests.{both, and_true, or_true, or_left}
 use Rattle.guards_model.proofs.Counting.{count-split, count-all, count-within, has-head}
@@ -55,18 +55,18 @@ no_fewer set more h =
 
 module _ (M : MissionValue) (L : Log) where
   active_is : (past : Past) → (next_cycle M L past).active ≡ active_set M past
-  unfolding cycle_from opening_of
+  unfolding cycle_from cycle_start_of
   active_is past = refl
 
   -- the test that the candidates of a cycle pass
   unfoldable candidate : Past → ℕ → Bool
-  unfolding opening_of agreement_of cycle_from decision_of
+  unfolding cycle_start_of agreement_of cycle_from decision_of
   candidate past q =
       let e = next_cycle M L past in
       nat_le M.rules.threshold (Rattle.guards_model.specs.Channels.place_or e.counts q 0) || asks e.active e.fresh e.agreed q
 
   removed_is : (past : Past) → (next_cycle M L past).removed ≡ take (length (next_cycle M L past).active - 3) (filter (candidate past) (next_cycle M L past).active)
-  unfolding cycle_from decision_of opening_of agreement_of candidate
+  unfolding cycle_from decision_of cycle_start_of agreement_of candidate
   removed_is past = refl
 
   joined_is : (past : Past) → (next_cycle M L past).joined ≡ joined_of M.rules.last (next_cycle M L past).transfer (next_cycle M L past).remaining

@@ -81,13 +81,13 @@ abbrev pub sweeping_after : List ℕ → List ℕ → Option SweepingValue → O
 sweeping_after planned written sweeping =
     option_map (λ s. record { transfer = s.transfer; tags = tags_after planned written s.tags }) sweeping
 
-abbrev pub remaining_in : Option SweepingValue → List ℕ
-remaining_in None = []
-remaining_in (Some s) = s.tags.remaining
+abbrev pub blocks_remaining : Option SweepingValue → List ℕ
+blocks_remaining None = []
+blocks_remaining (Some s) = s.tags.remaining
 
 -- who is declared joined, of the transfer with its tags at the cycle's end
 abbrev pub joined_by : ℕ → Option SweepingValue → ChannelSet
-joined_by last sweeping = joined_of last (transfer_in sweeping) (remaining_in sweeping)
+joined_by last sweeping = joined_of last (transfer_in sweeping) (blocks_remaining sweeping)
 
 -- a transfer is over when its targets are declared joined
 abbrev pub goes_on : ChannelSet → Option SweepingValue → Option SweepingValue
@@ -114,7 +114,7 @@ start_if_joined (q ∷ joined) (Some s) = s.transfer.start
 
 abbrev pub rest_if_joined : ChannelSet → Option SweepingValue → List ℕ
 rest_if_joined [] sweeping = []
-rest_if_joined (q ∷ joined) sweeping = remaining_in sweeping
+rest_if_joined (q ∷ joined) sweeping = blocks_remaining sweeping
 
 unfoldable pub closed_by : ℕ → List ℕ → List ℕ → ControlValue → ClosedValue
 closed_by last planned written k =

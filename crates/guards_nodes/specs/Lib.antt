@@ -2,3 +2,4 @@ pub mod NodeStates
 pub mod NodeSteps
 pub mod NodeFrames
 pub mod NodeCalls
+pub mod WholeLines

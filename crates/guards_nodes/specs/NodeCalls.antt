@@ -7,11 +7,11 @@ use Rattle.guards_model.specs.Voting.{Ballots}
 use Rattle.guards_model.specs.Controls.{ControlValue, ClosedValue, closed_by}
 use Rattle.guards_model.specs.Texts.{LineValue}
 use Rattle.guards_nodes.specs.NodeStates.{NodeValue, StateValue, running, returning, RunningValue, JoinerValue, DecidedValue}
-use Rattle.guards_nodes.specs.NodeSteps.{Received, StandsFor, HasWorked, first_running, after_exchange, after_decision, plan_in, after_close, after_votes, line_by, risen}
+use Rattle.guards_nodes.specs.NodeSteps.{Received, StandsFor, HasWorked, first_running_value, after_exchange, after_decision, plan_in, after_close, after_votes, line_by, risen}
 
 -- the node of a channel before the first cycle
 abbrev pub first_node : MissionValue → Channel → NodeValue
-first_node M q = record { channel = q; rules = M.rules; state = running (first_running M.rules M.initial) }
+first_node M q = record { channel = q; rules = M.rules; state = running (first_running_value M.rules M.initial) }
 
 abbrev pub IsRunning : NodeValue → Type 0
 IsRunning node = (r : RunningValue) × (node.state ≡ running r)

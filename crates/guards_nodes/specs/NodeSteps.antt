@@ -3,7 +3,7 @@
 use Rattle.std.specs.Prelude.{◌≡◌, ⊤, ℕ, ◌+◌, ◌&&◌, ◌==◌, ℤ, List, [], ◌∷◌, length, map, take, Bool, Option, Some, None, option_map, slice_set, if◌then◌else◌}
 use Rattle.guards_model.specs.declared.Actor.{Actor}
 use Rattle.guards_model.specs.Channels.{Channel, ChannelSet, place_or, by_channel, tolerated_faults}
-use Rattle.guards_model.specs.Contexts.{ContextValue, word_at, with_word}
+use Rattle.guards_model.specs.Contexts.{ContextValue, context_word, with_word}
 use Rattle.guards_model.specs.Tasks.{WriteValue, whole}
 use Rattle.guards_model.specs.Missions.{RulesValue}
 use Rattle.guards_model.specs.Frames.{SourceValue, ItemValue, SweepValue, FinalValue}
@@ -31,8 +31,8 @@ abbrev pub with_items : ℕ → Channel → List ItemValue → Received → Rece
 with_items round from items received r j = if (r == round && j == from) then items else received r j
 
 -- the values that the member holds for the paths of so many labels
-abbrev pub level_of : ChannelSet → ℕ → Channel → SourceValue → Received → ℕ → List (Option SourceValue)
-level_of active width me own received labels = map (held_value active width me own received) (paths active labels)
+abbrev pub held_level : ChannelSet → ℕ → Channel → SourceValue → Received → ℕ → List (Option SourceValue)
+held_level active width me own received labels = map (held_value active width me own received) (paths active labels)
 
 -- the tree that stands for what was received: it has a level for each round that there is
 abbrev pub tree_of : ChannelSet → Channel → ℕ → SourceValue → Received → ExchangeTreeValue
@@ -43,8 +43,8 @@ tree_of active me width own received =
       width = width;
       own = own;
       levels = take (tolerated_faults active + 1)
-          (level_of active width me own received 1 ∷ level_of active width me own received 2
-          ∷ level_of active width me own received 3 ∷ []);
+          (held_level active width me own received 1 ∷ held_level active width me own received 2
+          ∷ held_level active width me own received 3 ∷ []);
     }
 
 -- the tree of the same member for other things received
@@ -71,8 +71,8 @@ agreed_from received tree = agreed_by tree.active tree.width tree.me tree.own re
 abbrev pub first_held : RulesValue → ContextValue → HeldValue
 first_held rules initial = record { context = initial; control = first_control rules; accused = []; heard = no_codes }
 
-abbrev pub first_running : RulesValue → ContextValue → RunningValue
-first_running rules initial = record { held = first_held rules initial; progress = no_progress }
+abbrev pub first_running_value : RulesValue → ContextValue → RunningValue
+first_running_value rules initial = record { held = first_held rules initial; progress = no_progress }
 
 -- one word of the context is set
 abbrev pub with_damage : ℕ → ℕ → ℤ → RunningValue → RunningValue
@@ -168,7 +168,7 @@ pub record HasWorked (rules : RulesValue) (row : List WriteValue) (c : ℕ) (old
 
 -- the words of a context at these places
 abbrev pub words_at : List (ℕ × ℕ) → ContextValue → List ℤ
-words_at outputs ctx = map (λ o. word_at ctx o.0 o.1) outputs
+words_at outputs ctx = map (λ o. context_word ctx o.0 o.1) outputs
 
 -- the ballots of a vote, with the channel's own in its place
 abbrev pub with_own : Channel → List ℤ → Ballots → Ballots

@@ -3,7 +3,7 @@ use Rattle.std.specs.Prelude.{ℕ, suc, Bool, true, false, List, [], ◌∷◌, 
 use Rattle.guards_model.specs.Missions.{MissionValue, ActuatorValue}
 use Rattle.guards_model.specs.Network.{Log, without_outputs}
 use Rattle.guards_model.specs.Rounds.{Histories}
-use Rattle.guards_model.specs.Texts.{TextValue, Part, StopValue, cycle_part, head_line, last_line, out_line, text_of}
+use Rattle.guards_model.specs.Texts.{TextValue, Part, StopValue, cycle_part, head_line, last_line, out_line, text_of_parts}
 use Rattle.guards_runs.specs.Cycles.{Past, this_cycle, cycles_before}
 use Rattle.guards_runs.specs.Disturbed.{stop_of}
 use Rattle.guards_runs.specs.Outputs.{acted_stop, words_after}
@@ -42,7 +42,7 @@ acted_cycles M L = cycles_before M (without_outputs L) M.cycles
 
 -- the report of a log of a mission with an actuator
 unfoldable pub acted_report : Bool → MissionValue → ActuatorValue → Log → Histories → TextValue
-acted_report trace M a L histories = text_of (acted_run_parts trace M a L histories (acted_cycles M L))
+acted_report trace M a L histories = text_of_parts (acted_run_parts trace M a L histories (acted_cycles M L))
 
 -- ---- with or without one
 
@@ -67,4 +67,4 @@ whole_parts trace M L histories = parts_with M.actuator trace M L histories
 
 -- the report of a log
 unfoldable pub whole_report : Bool → MissionValue → Log → Histories → TextValue
-whole_report trace M L histories = text_of (whole_parts trace M L histories)
+whole_report trace M L histories = text_of_parts (whole_parts trace M L histories)

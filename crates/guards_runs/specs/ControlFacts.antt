@@ -14,8 +14,8 @@ abbrev pub sweeping_of : MissionValue → Past → TransferValue → SweepingVal
 sweeping_of M past t = record { transfer = t; tags = tags_of M.rules.blocks (swept_since M t.start past) [] }
 
 -- the control with which every running channel begins the cycle after the past
-abbrev pub control_at : MissionValue → Past → ControlValue
-control_at M past =
+abbrev pub control_after_past : MissionValue → Past → ControlValue
+control_after_past M past =
     record {
       active = active_set M past;
       fresh = fresh_set past;
@@ -42,12 +42,12 @@ closed_of e =
 pub record ControlFollows (M : MissionValue) (past : Past) (e : Cycle) : Type 0 where
   -- from any agreed words it decides what the facts decide from them
   pub decides : (agreed : Agreed) →
-      decided_by M.rules (this_cycle past) (control_at M past) agreed ≡ decision_of M past e.opening agreed
+      decided_by M.rules (this_cycle past) (control_after_past M past) agreed ≡ decision_of M past e.opening agreed
   -- with the cycle's decision, and any list of just the blocks that are written, it becomes the control of the next cycle
   pub closes : (written : List ℕ) → ((b : ℕ) → has written b ≡ has (written_blocks M (this_cycle past)) b) →
       control_closed M.rules.last e.removed e.planned written
-      (control_decided M.rules (this_cycle past) (control_at M past) e.decision) ≡ control_at M (e ∷ past)
+      (control_decided M.rules (this_cycle past) (control_after_past M past) e.decision) ≡ control_after_past M (e ∷ past)
   -- and answers what the facts say
   pub answers : (written : List ℕ) → ((b : ℕ) → has written b ≡ has (written_blocks M (this_cycle past)) b) →
       closed_by M.rules.last e.planned written
-      (control_decided M.rules (this_cycle past) (control_at M past) e.decision) ≡ closed_of e
+      (control_decided M.rules (this_cycle past) (control_after_past M past) e.decision) ≡ closed_of e

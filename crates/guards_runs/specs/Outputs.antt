@@ -12,7 +12,7 @@ use Rattle.guards_model.specs.Actuators.{ballot_spelled, output_frame, voted_wor
 use Rattle.guards_model.specs.Texts.{StopValue}
 use Rattle.guards_runs.specs.Cycles.{Cycle, Past, this_cycle, cycle_at}
 use Rattle.guards_runs.specs.Disturbed.{differs_from, disturbed_channels, stop_in, first_of_two}
-use Rattle.guards_runs.specs.Report.{running_in}
+use Rattle.guards_runs.specs.Report.{channels_running_in}
 
 -- ---- the words
 
@@ -54,7 +54,7 @@ pub record IsOutputDue (version c : ℕ) (q : Channel) (words : List ℤ) (entry
 -- the output entries of a cycle: each channel that is active and up at its end sends the words of its vote
 abbrev pub AreOutputsDue : ℕ → ℕ → Cycle → Log → Type 0
 AreOutputsDue version c e now =
-    AllZip (λ q entry. IsOutputDue version c q (voted_words (place_or e.voted q [])) entry) (running_in Switch e) now
+    AllZip (λ q entry. IsOutputDue version c q (voted_words (place_or e.voted q [])) entry) (channels_running_in Switch e) now
 
 -- ---- the stop
 

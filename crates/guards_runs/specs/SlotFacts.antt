@@ -11,7 +11,7 @@ use Rattle.guards_model.specs.Rounds.{AreWritesBefore}
 use Rattle.guards_model.specs.Network.{EntryValue, Log, suits}
 use Rattle.guards_runs.specs.Cycles.{Past, Cycle, cycle_from, this_cycle, received_body}
 use Rattle.guards_runs.specs.Disturbed.{halts}
-use Rattle.guards_runs.specs.Due.{carries_frames, is_sender, receivers, slot_carries, owed, frame_of, origin_of, control_after}
+use Rattle.guards_runs.specs.Due.{carries_frames, is_sender, receivers, slot_carries, owed, frame_on, due_origin, control_after}
 use Rattle.guards_runs.specs.Restoration.{sweeps_at, finals_at}
 
 -- each entry is of cycle c in the slot at this place or a later one, or of a later cycle
@@ -28,8 +28,8 @@ pub record FramesStay (M : MissionValue) (entries new : Log) (past : Past) (slot
       owed M past (cycle_from M (entries ++ new) past) slot from to places
       ≡ owed M past (cycle_from M entries past) slot from to places
   pub origins : slot ≡ Sweep → (from : Channel) →
-      origin_of M past (cycle_from M (entries ++ new) past) from
-      ≡ origin_of M past (cycle_from M entries past) from
+      due_origin M past (cycle_from M (entries ++ new) past) from
+      ≡ due_origin M past (cycle_from M entries past) from
 
 -- whether a slot stops the run is not changed by entries of later slots
 abbrev pub StopStays : MissionValue → Log → Log → Past → Slot → Type 0
@@ -45,13 +45,13 @@ pub record IsSent (M : MissionValue) (past : Past) (e : Cycle) (slot : Slot) (fr
   pub sender : from < 7
   pub sends : is_sender e slot from ≡ true
   pub receives : has (receivers e slot) to ≡ true
-  pub in_order : slot ≡ Sweep → AreWritesBefore (origin_of M past e from) places
+  pub in_order : slot ≡ Sweep → AreWritesBefore (due_origin M past e from) places
 
 -- What is owed has a spelling, and suits its slot and receiver: so what arrives as it was sent counts.
 pub record Counts (M : MissionValue) (past : Past) (e : Cycle) (slot : Slot) (from to : ℕ)
     (places : List ℕ) : Type 0 where
   pub spelled : in_range
-      (frame_of M (record { cycle = this_cycle past; slot = slot; from = from; to = to })
+      (frame_on M (record { cycle = this_cycle past; slot = slot; from = from; to = to })
       (owed M past e slot from to places)) ≡ true
   pub suiting : suits (format_of M) slot to (owed M past e slot from to places) ≡ true
 

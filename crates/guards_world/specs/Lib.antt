@@ -4,3 +4,7 @@ pub mod SlotSteps
 pub mod Worlds
 pub mod InCycle
 pub mod WorldCycle
+pub mod NodeLists
+pub mod SlotSends
+pub mod Passing
+pub mod Arrivals

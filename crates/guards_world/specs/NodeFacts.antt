@@ -11,8 +11,8 @@ use Rattle.guards_model.specs.Rounds.{Steps, steps_of, copies_of_replay}
 use Rattle.guards_model.specs.Controls.{ControlValue, control_decided}
 use Rattle.guards_model.specs.Ledgers.{LedgerValue}
 use Rattle.guards_runs.specs.Cycles.{Cycle, Past, this_cycle, mode_in, mode_after, context_after, accused_before, heard_before, source_word, was_damaged, received_items, items_in}
-use Rattle.guards_runs.specs.ControlFacts.{control_at, closed_of}
-use Rattle.guards_runs.specs.Due.{origin_of, context_or_none, is_round}
+use Rattle.guards_runs.specs.ControlFacts.{control_after_past, closed_of}
+use Rattle.guards_runs.specs.Due.{due_origin, context_or_none, is_round}
 use Rattle.guards_runs.specs.Restoration.{carried_over, replica_after, content_taken}
 use Rattle.guards_nodes.specs.NodeStates.{HeldValue, ExchangeTreeValue, WorkedValue, ProgressValue, no_progress, no_codes, RunningValue, JoinerValue, StateValue, running, fallen, resting, returning, NodeValue}
 use Rattle.guards_nodes.specs.NodeSteps.{Received, tree_of, kept_of, with_content}
@@ -24,7 +24,7 @@ abbrev pub held_at : MissionValue → Past → Channel → HeldValue
 held_at M past q =
     record {
       context = context_or_none (context_after M past q);
-      control = control_at M past;
+      control = control_after_past M past;
       accused = accused_before past q;
       heard = heard_before past q;
     }
@@ -42,7 +42,7 @@ state_of_mode r j (waiting n) = resting
 state_of_mode r j joining = returning j
 
 -- The state of each node after the past. That a node holds just this is, part by part: its context is the held one
--- (`context_after`), its control is that of the decisions so far (`control_at`), its accusations and its codes are those
+-- (`context_after`), its control is that of the decisions so far (`control_after_past`), its accusations and its codes are those
 -- of the votes and requests of the cycle before (`accused_before`, `heard_before`), its mode is that of the script
 -- (`mode_after`), and a joining node's replica is what the sweep frames made of it.
 abbrev pub state_at : MissionValue → Past → Channel → StateValue
@@ -83,8 +83,8 @@ context_in e done q = context_or_none (since Tasks done (place_or e.contexts_bef
 abbrev pub control_in : MissionValue → Past → Cycle → ℕ → ControlValue
 control_in M past e done =
     since Sweep done
-    (since Round3 done (control_at M past) (control_decided M.rules (this_cycle past) (control_at M past) e.decision))
-    (control_at M (e ∷ past))
+    (since Round3 done (control_after_past M past) (control_decided M.rules (this_cycle past) (control_after_past M past) e.decision))
+    (control_after_past M (e ∷ past))
 
 abbrev pub held_in : MissionValue → Past → Cycle → ℕ → Channel → HeldValue
 held_in M past e done q =
@@ -108,29 +108,29 @@ received_through M past e done p (suc r) from =
     then items_in (received_items M e.entries (this_cycle past) p) (suc r) from
     else []
 
-abbrev pub tree_in : MissionValue → Past → Cycle → ℕ → Channel → ExchangeTreeValue
-tree_in M past e done q = tree_of e.active q M.width (source_word M past q) (received_through M past e done q)
+abbrev pub tree_value_in : MissionValue → Past → Cycle → ℕ → Channel → ExchangeTreeValue
+tree_value_in M past e done q = tree_of e.active q M.width (source_word M past q) (received_through M past e done q)
 
 abbrev pub worked_in : MissionValue → Past → Cycle → Steps → Channel → WorkedValue
 worked_in M past e steps q =
     record {
       cycle = this_cycle past;
       steps = steps_of steps q;
-      copies = copies_of_replay (origin_of M past e q) (steps_of steps q);
+      copies = copies_of_replay (due_origin M past e q) (steps_of steps q);
     }
 
 abbrev pub progress_in : MissionValue → Past → Cycle → Steps → ℕ → Channel → ProgressValue
 progress_in M past e steps done q =
     record {
       hearing = since Sweep done (since Request done no_codes (place_or e.request_codes q [])) no_codes;
-      tree = Some (tree_in M past e done q);
+      tree = Some (tree_value_in M past e done q);
       decided = since Round3 done None (Some (kept_of e.decision e.inputs));
       worked = since Tasks done None (Some (worked_in M past e steps q));
       closed = since Sweep done None (Some (closed_of e));
     }
 
-abbrev pub running_in : MissionValue → Past → Cycle → Steps → ℕ → Channel → RunningValue
-running_in M past e steps done q =
+abbrev pub running_value_in : MissionValue → Past → Cycle → Steps → ℕ → Channel → RunningValue
+running_value_in M past e steps done q =
     record { held = held_in M past e done q; progress = progress_in M past e steps done q }
 
 -- a joining channel's replica has this cycle's sweep frames from the sweep slot on, and the final content from the final slot on
@@ -145,7 +145,7 @@ joiner_in M past e done q =
 
 -- the state of each node in a mode, where so many slots are done
 abbrev pub state_done : MissionValue → Past → Cycle → Steps → ModeValue → ℕ → Channel → StateValue
-state_done M past e steps mode done q = state_of_mode (running_in M past e steps done q) (joiner_in M past e done q) mode
+state_done M past e steps mode done q = state_of_mode (running_value_in M past e steps done q) (joiner_in M past e done q) mode
 
 -- the state of each node with the modes of a slot, where so many slots are done
 unfoldable pub state_in : MissionValue → Past → Cycle → Steps → Slot → ℕ → Channel → StateValue

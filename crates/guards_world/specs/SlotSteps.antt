@@ -30,12 +30,12 @@ abbrev pub joiner_if : ℕ → Bool → StateValue → StateValue
 joiner_if blocks begins state = if begins then returning (new_joiner blocks) else state
 
 -- a running channel is damaged as the script says, and sends its source word; another one may begin to join
-abbrev pub opened : MissionValue → Past → Channel → StateValue → StateValue
-opened M past q (running r) =
+abbrev pub opened_state : MissionValue → Past → Channel → StateValue → StateValue
+opened_state M past q (running r) =
     running (after_source q M.width (sensor M q (this_cycle past)) (after_damages M.script q (this_cycle past) r))
-opened M past q fallen = joiner_if M.rules.blocks (begins_to_join M past q) fallen
-opened M past q resting = joiner_if M.rules.blocks (begins_to_join M past q) resting
-opened M past q (returning j) = returning j
+opened_state M past q fallen = joiner_if M.rules.blocks (begins_to_join M past q) fallen
+opened_state M past q resting = joiner_if M.rules.blocks (begins_to_join M past q) resting
+opened_state M past q (returning j) = returning j
 
 -- ---- the request slot
 
@@ -64,8 +64,8 @@ risen_if None j = returning j
 risen_if (Some control) j = running (risen j control)
 
 -- a running channel that is switched off rests
-abbrev pub ended : Bool → StateValue → StateValue
-ended on (running r) = if on then running r else resting
-ended on fallen = fallen
-ended on resting = resting
-ended on (returning j) = risen_if j.taken j
+abbrev pub ended_state : Bool → StateValue → StateValue
+ended_state on (running r) = if on then running r else resting
+ended_state on fallen = fallen
+ended_state on resting = resting
+ended_state on (returning j) = risen_if j.taken j

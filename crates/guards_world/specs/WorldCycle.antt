@@ -15,8 +15,8 @@ use Rattle.guards_model.specs.Texts.{LineValue, RecordValue, StopValue}
 use Rattle.guards_model.specs.Records.{shown}
 use Rattle.guards_runs.specs.Cycles.{Cycle, Past, next_cycle, cycles_before, is_whole}
 use Rattle.guards_runs.specs.Disturbed.{stop_in, stop_of}
-use Rattle.guards_runs.specs.Due.{IsDue, IsMadeBy, AreMadeBy, cycle_carries, carries_through, origin_of}
-use Rattle.guards_runs.specs.Report.{cycle_record, running_in}
+use Rattle.guards_runs.specs.Due.{IsDue, IsMadeBy, AreMadeBy, cycle_carries, carries_through, due_origin}
+use Rattle.guards_runs.specs.Report.{cycle_record, channels_running_in}
 use Rattle.guards_runs.specs.Restoration.{context_taken}
 use Rattle.guards_runs.specs.Soundness.{IsSoundCycle}
 use Rattle.guards_nodes.specs.NodeStates.{NodeValue, WorkedValue, running_or_none}
@@ -40,7 +40,7 @@ pub record Carries (may : List RuleValue → EntryValue → Type 0) (old new : B
 -- the steps of each channel that is active and up in the tasks slot are full
 abbrev pub AreFull : MissionValue → Past → Cycle → Steps → Type 0
 AreFull M past e steps =
-    (p : Channel) → IsTrue (has (running_in Tasks e) p) → IsFull (origin_of M past e p) (steps_of steps p)
+    (p : Channel) → IsTrue (has (channels_running_in Tasks e) p) → IsFull (due_origin M past e p) (steps_of steps p)
 
 -- ---- the three ends
 
@@ -60,7 +60,7 @@ HasTrail w q c steps =
     × (worked.steps ≡ steps)
 
 -- in the places past the mission's words, outputs and channels a line has 0, none and 0
-pub record IsPadded (M : MissionValue) (l : LineValue) : Type 0 where
+pub record IsLinePadded (M : MissionValue) (l : LineValue) : Type 0 where
   pub inputs : drop M.width l.inputs ≡ replicate (4 - M.width) (pos 0)
   pub votes : drop (length M.outputs) l.votes ≡ replicate (8 - length M.outputs) None
   pub counts : drop M.rules.channels l.counts ≡ replicate (7 - M.rules.channels) 0
@@ -76,7 +76,7 @@ pub record Finishes (old : WorldValue) (L now : Log) (part : RecordValue) (new :
   -- the answer is the record of the cycle, in the places that the mission has; the others are empty
   pub record_is : shown old.mission.rules.channels old.mission.width (length old.mission.outputs) part
       ≡ cycle_record old.mission steps old.done e
-  pub padded : AllByRecursion (IsPadded old.mission) part.lines
+  pub padded : AllByRecursion (IsLinePadded old.mission) part.lines
   -- the longer list stands for the new world
   pub mission : new.mission ≡ old.mission
   pub done : new.done ≡ suc old.done
@@ -85,7 +85,7 @@ pub record Finishes (old : WorldValue) (L now : Log) (part : RecordValue) (new :
   -- agreement and restoration
   pub sound : IsSoundCycle old.mission past e
   -- each running channel that stays active has its trail
-  pub trails : (p : Channel) → IsTrue (has (running_in Switch e) p) → has e.removed p ≡ false →
+  pub trails : (p : Channel) → IsTrue (has (channels_running_in Switch e) p) → has e.removed p ≡ false →
       HasTrail new p old.done (steps_of steps p)
   -- a whole channel holds its replica with the final content put in
   pub taken : (q : Channel) → IsTrue (is_whole q (e ∷ past)) →
@@ -107,7 +107,7 @@ pub record Stops (old : WorldValue) (L now : Log) (stop : StopValue) (new : Worl
   pub spent : new.spent ≡ Some (disturbed stop)
 
 -- Memory ran out: the entries are the first of the due ones.
-pub record RunsOut (old : WorldValue) (L now : Log) (new : WorldValue) (e : Cycle) (past : Past) : Type 0 where
+pub record CycleRunsOutOfMemory (old : WorldValue) (L now : Log) (new : WorldValue) (e : Cycle) (past : Past) : Type 0 where
   pub earlier : past ≡ cycles_before old.mission (L ++ now) old.done
   pub facts : e ≡ next_cycle old.mission (L ++ now) past
   pub due : AllZip (IsDue old.mission past e) (take (length now) (cycle_carries old.done e)) now
@@ -119,13 +119,13 @@ pub record RunsOut (old : WorldValue) (L now : Log) (new : WorldValue) (e : Cycl
 abbrev pub Ends : WorldValue → Log → Log → Result RecordValue HaltValue → WorldValue → Type 0
 Ends old L now (Ok part) new = (e : Cycle) × (past : Past) × Finishes old L now part new e past
 Ends old L now (Err (disturbed stop)) new = (e : Cycle) × (past : Past) × Stops old L now stop new e past
-Ends old L now (Err no_memory) new = (e : Cycle) × (past : Past) × RunsOut old L now new e past
+Ends old L now (Err no_memory) new = (e : Cycle) × (past : Past) × CycleRunsOutOfMemory old L now new e past
 
 -- What a call does that passes one cycle. A spent world answers its halt again and carries nothing.
-abbrev pub CycleOf : (List RuleValue → EntryValue → Type 0) → Option HaltValue → WorldValue → BusValue →
+abbrev pub PassesCycle : (List RuleValue → EntryValue → Type 0) → Option HaltValue → WorldValue → BusValue →
     Result RecordValue HaltValue → WorldValue → BusValue → Type 0
-CycleOf may (Some halt) old bus result new bus_after = (result ≡ Err halt) × (new ≡ old) × (bus_after ≡ bus)
-CycleOf may None old bus result new bus_after =
+PassesCycle may (Some halt) old bus result new bus_after = (result ≡ Err halt) × (new ≡ old) × (bus_after ≡ bus)
+PassesCycle may None old bus result new bus_after =
     (now : Log) × Carries may bus bus_after now × (new.carried ≡ old.carried + length now)
     × Ends old (last_entries old.carried bus.log) now result new
 

@@ -6,7 +6,7 @@ use Rattle.guards_model.specs.Network.{Log, without_outputs}
 use Rattle.guards_model.specs.Ledgers.{LedgerValue}
 use Rattle.guards_model.specs.Settled.{SettledValue}
 use Rattle.guards_model.specs.Texts.{StopValue}
-use Rattle.guards_runs.specs.Cycles.{Past, this_cycle, active_set, cycles_before}
+use Rattle.guards_runs.specs.Cycles.{Past, this_cycle, active_set, cycles_before, Cycle, cycle_at}
 use Rattle.guards_runs.specs.Disturbed.{settled_of, stop_of}
 use Rattle.guards_runs.specs.Due.{AreDue}
 use Rattle.guards_nodes.specs.NodeStates.{NodeValue, without_progress}
@@ -70,3 +70,10 @@ first_world M =
       spent = None;
       settled = None;
     }
+
+-- the facts of the world's cycle, from a log that has this cycle's entries at its end
+abbrev pub past_in : WorldValue → Log → Past
+past_in w L = cycles_before w.mission L w.done
+
+abbrev pub facts_in : WorldValue → Log → Cycle
+facts_in w L = cycle_at w.mission L w.done

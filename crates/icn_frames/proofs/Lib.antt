@@ -1,5 +1,5 @@
 pub mod BigEndian
-pub mod Padding
+pub mod FrontOfZeros
 pub mod Loops
 pub mod Sets
 mod Short

@@ -4,7 +4,7 @@ use Rattle.std.proofs.lemmas.List.{append-nil, take_more_set, length-set, take_a
 use Rattle.std.proofs.Math.ListN.{set}
 use Rattle.icn_frames.specs.declared.unread.Unread.{Unread}
 use Rattle.icn_frames.specs.declared.unread.Unread.TheVariants.{Memory, NoFrame}
-use Rattle.icn_frames.specs.Reads.{Fails}
+use Rattle.icn_frames.specs.Reads.{FailsToRead}
 use Rattle.guards_model.specs.Fields.{Reader, ◌>>=◌, many}
 
 -- what was read before, and what is still read
@@ -31,8 +31,8 @@ module _ {A : Type 0} (read : Reader A) where
       let one : with_front front (many read (count - i) bytes) ≡ with_front (front ++ x ∷ []) (many read (count - (i + 1)) after) = rw (k, h) (regroup front x (many read (count - (i + 1)) after)) in
       sym one ∙ so_far
 
-  pub ends : (e : Unread) (front : List A) (count i : ℕ) (bytes : List ℕ) (total : Option (List A × List ℕ)) → i < count → Fails e (read bytes)
-      → with_front front (many read (count - i) bytes) ≡ total → Fails e total
+  pub ends : (e : Unread) (front : List A) (count i : ℕ) (bytes : List ℕ) (total : Option (List A × List ℕ)) → i < count → FailsToRead e (read bytes)
+      → with_front front (many read (count - i) bytes) ≡ total → FailsToRead e total
   unfolding many
   ends Memory front count i bytes total lt h so_far = tt
   ends NoFrame front count i bytes total lt h so_far =

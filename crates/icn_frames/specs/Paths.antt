@@ -3,7 +3,7 @@ use Rattle.std.proofs.Common.{◌≡◌, ◌≤◌, ◌-◌, ◌++◌, ◌∙◌
 use Rattle.std.proofs.lemmas.List.{take-append-drop, length-take-le}
 
 -- at most two labels are in use, and each other place is 0
-pub record IsPath (count : ℕ) (places : List ℕ) : Type 0 where
+pub record IsLabelPath (count : ℕ) (places : List ℕ) : Type 0 where
   pub two : length places ≡ 2
   pub most : count ≤ 2
   pub unused : drop count places ≡ replicate (2 - count) 0
@@ -13,7 +13,7 @@ abbrev pub both_places : List ℕ → List ℕ
 both_places path = path ++ replicate (2 - length path) 0
 
 -- the labels in use tell both places and their number
-pub labels_back : (count : ℕ) (places : List ℕ) → IsPath count places →
+pub labels_back : (count : ℕ) (places : List ℕ) → IsLabelPath count places →
     ◌≡◌ {A = ℕ × List ℕ} (length (take count places), both_places (take count places)) (count, places)
 labels_back count places p =
     let len : length (take count places) ≡ count = length-take-le count places (subst (λ n. count ≤ n) (sym p.two) p.most) in

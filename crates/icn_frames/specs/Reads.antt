@@ -3,16 +3,16 @@ use Rattle.std.specs.Prelude.{◌≡◌, ⊤, Option, Some, None, Result, Ok, Er
 use Rattle.icn_frames.specs.declared.unread.Unread.{Unread}
 use Rattle.icn_frames.specs.declared.unread.Unread.TheVariants.{Memory, NoFrame}
 
-abbrev pub Fails : {Y : Type 0} → Unread → Option Y → Type 0
-Fails Memory read = ⊤
-Fails NoFrame read = read ≡ None
+abbrev pub FailsToRead : {Y : Type 0} → Unread → Option Y → Type 0
+FailsToRead Memory read = ⊤
+FailsToRead NoFrame read = read ≡ None
 
 -- what a function returned, seen by `view`, is what reading gives, unless memory ran out
-abbrev pub Gives : {X Y : Type 0} → (X → Y) → Result X Unread → Option Y → Type 0
-Gives view (Ok x) read = read ≡ Some (view x)
-Gives view (Err e) read = Fails e read
+abbrev pub GivesRead : {X Y : Type 0} → (X → Y) → Result X Unread → Option Y → Type 0
+GivesRead view (Ok x) read = read ≡ Some (view x)
+GivesRead view (Err e) read = FailsToRead e read
 
 -- the same, and the value has a further property
 abbrev pub GivesWith : {X Y : Type 0} → (X → Y) → (X → Type 0) → Result X Unread → Option Y → Type 0
 GivesWith view Has (Ok x) read = (read ≡ Some (view x)) × Has x
-GivesWith view Has (Err e) read = Fails e read
+GivesWith view Has (Err e) read = FailsToRead e read

@@ -5,7 +5,7 @@ ghost use Rattle.std.specs.Int.{w32};
 ghost use Rattle.guards_model.specs.Frames.{FrameValue, Spells};
 ghost use Rattle.guards_model.specs.Fields.{body_at, request_at, exchange_at, vote_at, sweep_at, final_at, switch_at, optional_at, number_at, frame_at, frame_in};
 ghost use Rattle.icn_frames.specs.Bodies.{view_body};
-ghost use Rattle.icn_frames.specs.Reads.{Gives};
+ghost use Rattle.icn_frames.specs.Reads.{GivesRead};
 
 use crate::frame::{Body, Exchange, FinalBody, Frame, SweepBody};
 use crate::reading::Reader;
@@ -15,7 +15,7 @@ use std::alloc::{AllocError, Global};
 
 #[tactic(auto, unfolding(guards_model::specs::Fields::optional_at))]
 fn start(input: &mut Reader) -> Result<Option<u32>, Unread>
-    ensures { Gives (λ start. (start, input.new)) result (optional_at (number_at w32) input.old) }
+    ensures { GivesRead (λ start. (start, input.new)) result (optional_at (number_at w32) input.old) }
 {
     match input.byte()? {
         0 => Ok(None),
@@ -26,14 +26,14 @@ fn start(input: &mut Reader) -> Result<Option<u32>, Unread>
 
 #[tactic(auto, unfolding(guards_model::specs::Fields::request_at))]
 fn request(input: &mut Reader) -> Result<Body, Unread>
-    ensures { Gives (λ body. (view_body body, input.new)) result (request_at input.old) }
+    ensures { GivesRead (λ body. (view_body body, input.new)) result (request_at input.old) }
 {
     Ok(Body::Request(start(input)?))
 }
 
 #[tactic(auto, unfolding(guards_model::specs::Fields::exchange_at))]
 fn exchange(alloc: Global, sender: Chan, input: &mut Reader) -> Result<Body, Unread>
-    ensures { Gives (λ body. (view_body body, input.new)) result (exchange_at sender input.old) }
+    ensures { GivesRead (λ body. (view_body body, input.new)) result (exchange_at sender input.old) }
 {
     let round = input.byte()?;
     if round < 1 || round > 3 {
@@ -45,14 +45,14 @@ fn exchange(alloc: Global, sender: Chan, input: &mut Reader) -> Result<Body, Unr
 
 #[tactic(auto, unfolding(guards_model::specs::Fields::vote_at))]
 fn vote(input: &mut Reader) -> Result<Body, Unread>
-    ensures { Gives (λ body. (view_body body, input.new)) result (vote_at input.old) }
+    ensures { GivesRead (λ body. (view_body body, input.new)) result (vote_at input.old) }
 {
     Ok(Body::Vote(input.ballot()?))
 }
 
 #[tactic(auto, unfolding(guards_model::specs::Fields::sweep_at))]
 fn sweep(alloc: Global, input: &mut Reader) -> Result<Body, Unread>
-    ensures { Gives (λ body. (view_body body, input.new)) result (sweep_at input.old) }
+    ensures { GivesRead (λ body. (view_body body, input.new)) result (sweep_at input.old) }
 {
     let target = input.channel()?;
     let start = input.u32()?;
@@ -66,7 +66,7 @@ fn sweep(alloc: Global, input: &mut Reader) -> Result<Body, Unread>
 
 #[tactic(auto, unfolding(guards_model::specs::Fields::final_at))]
 fn final_body(alloc: Global, version: u8, input: &mut Reader) -> Result<Body, Unread>
-    ensures { Gives (λ body. (view_body body, input.new)) result (final_at version input.old) }
+    ensures { GivesRead (λ body. (view_body body, input.new)) result (final_at version input.old) }
 {
     let target = input.channel()?;
     let start = input.u32()?;
@@ -82,7 +82,7 @@ fn final_body(alloc: Global, version: u8, input: &mut Reader) -> Result<Body, Un
 
 #[tactic(auto, unfolding(guards_model::specs::Fields::switch_at))]
 fn switch(input: &mut Reader) -> Result<Body, Unread>
-    ensures { Gives (λ body. (view_body body, input.new)) result (switch_at input.old) }
+    ensures { GivesRead (λ body. (view_body body, input.new)) result (switch_at input.old) }
 {
     Ok(Body::Switch(input.set()?))
 }
@@ -95,7 +95,7 @@ fn body(
     sender: Chan,
     input: &mut Reader,
 ) -> Result<Body, Unread>
-    ensures { Gives (λ body. (view_body body, input.new)) result (body_at version kind sender input.old) }
+    ensures { GivesRead (λ body. (view_body body, input.new)) result (body_at version kind sender input.old) }
 {
     match kind {
         1 => request(input),
@@ -110,7 +110,7 @@ fn body(
 
 #[tactic(auto, unfolding(guards_model::specs::Fields::frame_at))]
 fn frame(alloc: Global, input: &mut Reader) -> Result<Frame, Unread>
-    ensures { Gives (λ frame. (frame, input.new)) result (frame_at input.old) }
+    ensures { GivesRead (λ frame. (frame, input.new)) result (frame_at input.old) }
 {
     if input.byte()? != 0x47 {
         return Err(Unread::NoFrame);
@@ -134,7 +134,7 @@ fn frame(alloc: Global, input: &mut Reader) -> Result<Frame, Unread>
 /// The frame that takes all of the bytes.
 #[tactic(auto, unfolding(guards_model::specs::Fields::frame_in))]
 fn whole_frame(alloc: Global, bytes: &[u8]) -> Result<Frame, Unread>
-    ensures { Gives (λ frame. frame) result (frame_in bytes.now) }
+    ensures { GivesRead (λ frame. frame) result (frame_in bytes.now) }
 {
     let mut input = Reader::new(bytes);
     let frame = frame(alloc, &mut input)?;

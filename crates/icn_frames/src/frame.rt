@@ -16,13 +16,13 @@ pub struct Labels {
 impl Model for Labels {
     ghost use Rattle.std.specs.Prelude.{ℕ, List, length, take};
     ghost use Rattle.std.proofs.Common.{ap};
-    ghost use Rattle.icn_frames.specs.Paths.{IsPath, both_places, labels_back};
+    ghost use Rattle.icn_frames.specs.Paths.{IsLabelPath, both_places, labels_back};
 
     ghost Value = { List ℕ };
 
     ghost view = { λ labels. take labels.count labels.at };
 
-    ghost invariant = { λ labels. IsPath labels.count labels.at };
+    ghost invariant = { λ labels. IsLabelPath labels.count labels.at };
 
     ghost inverse = { λ path. record { count = length path; at = both_places path } };
 

@@ -6,7 +6,7 @@ ghost use Rattle.std.specs.Int.{w16, w32};
 ghost use Rattle.guards_model.specs.Frames.{between};
 ghost use Rattle.guards_model.specs.Fields.{many, byte_at, number_at, counted_by, optional_at, word_at, channel_at, set_at, law_at, codes_at, source_word_at, labels_at, path_at, item_at, copy_at, count_at, control_law_at, control_at, items_at, swept_copies_at, final_copies_at};
 ghost use Rattle.guards_base.specs.Padding.{IsPadded};
-ghost use Rattle.icn_frames.specs.Reads.{Gives, GivesWith};
+ghost use Rattle.icn_frames.specs.Reads.{GivesRead, GivesWith};
 
 use crate::frame::{BlockCopy, ControlWord, Copies, Item, Items, Labels};
 use crate::ranges::{COUNT_CAP, are_codes, ascend, is_path, numbers_ascend, numbers_differ};
@@ -48,7 +48,7 @@ impl<'a> Reader<'a> {
     /// The next so many bytes, where they are there.
     #[tactic(auto, unfolding(guards_model::specs::Fields::labels_at))]
     fn front(&mut self, count: usize) -> Result<&'a [u8], Unread>
-        ensures front { Gives (λ front. (front.now, self.new)) result (labels_at count self.old) }
+        ensures front { GivesRead (λ front. (front.now, self.new)) result (labels_at count self.old) }
         ensures long { IfOk result (λ front. length front.now ≡ count) }
     {
         if self.rest.len() < count {
@@ -62,7 +62,7 @@ impl<'a> Reader<'a> {
 
 impl Reader<'_> {
     pub fn byte(&mut self) -> Result<u8, Unread>
-        ensures { Gives (λ byte. (byte, self.new)) result (byte_at self.old) }
+        ensures { GivesRead (λ byte. (byte, self.new)) result (byte_at self.old) }
     {
         match self.rest {
             [] => Err(Unread::NoFrame),
@@ -75,7 +75,7 @@ impl Reader<'_> {
 
     #[tactic(auto, using(crate::proofs::BigEndian::big_number_2))]
     fn u16(&mut self) -> Result<u16, Unread>
-        ensures { Gives (λ number. (number, self.new)) result (number_at w16 self.old) }
+        ensures { GivesRead (λ number. (number, self.new)) result (number_at w16 self.old) }
     {
         if self.rest.len() < 2 {
             return Err(Unread::NoFrame);
@@ -87,7 +87,7 @@ impl Reader<'_> {
 
     #[tactic(auto, using(crate::proofs::BigEndian::big_number_4))]
     pub fn u32(&mut self) -> Result<u32, Unread>
-        ensures { Gives (λ number. (number, self.new)) result (number_at w32 self.old) }
+        ensures { GivesRead (λ number. (number, self.new)) result (number_at w32 self.old) }
     {
         if self.rest.len() < 4 {
             return Err(Unread::NoFrame);
@@ -99,7 +99,7 @@ impl Reader<'_> {
 
     #[tactic(auto, using(crate::proofs::BigEndian::big_number_8), unfolding(guards_model::specs::Fields::word_at))]
     fn word(&mut self) -> Result<i64, Unread>
-        ensures { Gives (λ word. (word, self.new)) result (word_at self.old) }
+        ensures { GivesRead (λ word. (word, self.new)) result (word_at self.old) }
     {
         if self.rest.len() < 8 {
             return Err(Unread::NoFrame);
@@ -111,7 +111,7 @@ impl Reader<'_> {
 
     /// Reads as many words as the slice has places.
     fn fill_words(&mut self, words: &mut [i64]) -> Result<(), Unread>
-        ensures { Gives (λ _. (words.new, self.new)) result (many word_at (length words.old) self.old) }
+        ensures { GivesRead (λ _. (words.new, self.new)) result (many word_at (length words.old) self.old) }
     {
         for i in 0..words.len() {
             words[i] = self.word()?;
@@ -121,7 +121,7 @@ impl Reader<'_> {
 
     #[tactic(auto, unfolding(guards_model::specs::Fields::channel_at))]
     pub fn channel(&mut self) -> Result<Chan, Unread>
-        ensures { Gives (λ channel. (channel, self.new)) result (channel_at self.old) }
+        ensures { GivesRead (λ channel. (channel, self.new)) result (channel_at self.old) }
     {
         match Chan::new(self.byte()?) {
             None => Err(Unread::NoFrame),
@@ -131,7 +131,7 @@ impl Reader<'_> {
 
     #[tactic(auto, unfolding(guards_model::specs::Fields::set_at), using(crate::proofs::Sets::set_is_read))]
     pub fn set(&mut self) -> Result<ChanSet, Unread>
-        ensures { Gives (λ set. (set, self.new)) result (set_at self.old) }
+        ensures { GivesRead (λ set. (set, self.new)) result (set_at self.old) }
     {
         match ChanSet::from_mask(self.byte()?) {
             None => Err(Unread::NoFrame),
@@ -141,7 +141,7 @@ impl Reader<'_> {
 
     #[tactic(auto, unfolding(guards_model::specs::Fields::law_at))]
     fn law(&mut self) -> Result<Law, Unread>
-        ensures { Gives (λ law. (law, self.new)) result (law_at self.old) }
+        ensures { GivesRead (λ law. (law, self.new)) result (law_at self.old) }
     {
         match self.byte()? {
             1 => Ok(Law::Multiply),
@@ -188,7 +188,7 @@ impl Reader<'_> {
 
     #[tactic(auto, unfolding(guards_model::specs::Fields::source_word_at))]
     fn source_word(&mut self) -> Result<SourceWord, Unread>
-        ensures { Gives (λ word. (word, self.new)) result (source_word_at self.old) }
+        ensures { GivesRead (λ word. (word, self.new)) result (source_word_at self.old) }
     {
         let (width, words) = self.sensor_words()?;
         let accuse = self.set()?;
@@ -203,7 +203,7 @@ impl Reader<'_> {
 
     #[tactic(auto, unfolding(guards_model::specs::Fields::optional_at))]
     fn value(&mut self) -> Result<Option<SourceWord>, Unread>
-        ensures { Gives (λ word. (word, self.new)) result (optional_at source_word_at self.old) }
+        ensures { GivesRead (λ word. (word, self.new)) result (optional_at source_word_at self.old) }
     {
         match self.byte()? {
             0 => Ok(None),
@@ -216,7 +216,7 @@ impl Reader<'_> {
     fn path(&mut self, sender: Chan, round: u8) -> Result<Labels, Unread>
         requires low { 1 ≤ round }
         requires high { round ≤ 3 }
-        ensures { Gives (λ path. (path, self.new)) result (path_at sender round self.old) }
+        ensures { GivesRead (λ path. (path, self.new)) result (path_at sender round self.old) }
     {
         let count = round - 1;
         let mut at = [0; 2];
@@ -232,7 +232,7 @@ impl Reader<'_> {
     fn item(&mut self, sender: Chan, round: u8) -> Result<Item, Unread>
         requires low { 1 ≤ round }
         requires high { round ≤ 3 }
-        ensures { Gives (λ item. (item, self.new)) result (item_at sender round self.old) }
+        ensures { GivesRead (λ item. (item, self.new)) result (item_at sender round self.old) }
     {
         let path = self.path(sender, round)?;
         let word = self.value()?;
@@ -241,7 +241,7 @@ impl Reader<'_> {
 
     #[tactic(auto, unfolding(guards_model::specs::Fields::copy_at))]
     fn copy(&mut self) -> Result<BlockCopy, Unread>
-        ensures { Gives (λ copy. (copy, self.new)) result (copy_at self.old) }
+        ensures { GivesRead (λ copy. (copy, self.new)) result (copy_at self.old) }
     {
         let block = self.byte()?;
         let mut words = [0; 8];
@@ -254,7 +254,7 @@ impl Reader<'_> {
 
     #[tactic(auto, unfolding(guards_model::specs::Fields::count_at))]
     fn count(&mut self) -> Result<u32, Unread>
-        ensures { Gives (λ count. (count, self.new)) result (count_at self.old) }
+        ensures { GivesRead (λ count. (count, self.new)) result (count_at self.old) }
     {
         let count = self.u32()?;
         if count > COUNT_CAP {
@@ -265,7 +265,7 @@ impl Reader<'_> {
 
     /// Reads as many counts as the slice has places.
     fn fill_counts(&mut self, counts: &mut [u32]) -> Result<(), Unread>
-        ensures { Gives (λ _. (counts.new, self.new)) result (many count_at (length counts.old) self.old) }
+        ensures { GivesRead (λ _. (counts.new, self.new)) result (many count_at (length counts.old) self.old) }
     {
         for i in 0..counts.len() {
             counts[i] = self.count()?;
@@ -275,7 +275,7 @@ impl Reader<'_> {
 
     #[tactic(auto, unfolding(guards_model::specs::Fields::control_law_at))]
     fn control_law(&mut self, version: u8) -> Result<Law, Unread>
-        ensures { Gives (λ law. (law, self.new)) result (control_law_at version self.old) }
+        ensures { GivesRead (λ law. (law, self.new)) result (control_law_at version self.old) }
     {
         if version < 2 {
             return Ok(Law::Multiply);
@@ -285,7 +285,7 @@ impl Reader<'_> {
 
     #[tactic(auto, unfolding(guards_model::specs::Fields::control_at))]
     pub fn control(&mut self, version: u8) -> Result<ControlWord, Unread>
-        ensures { Gives (λ control. (control, self.new)) result (control_at version self.old) }
+        ensures { GivesRead (λ control. (control, self.new)) result (control_at version self.old) }
     {
         let law = self.control_law(version)?;
         let active = self.set()?;
@@ -310,7 +310,7 @@ impl Reader<'_> {
     ) -> Result<Items, Unread>
         requires low { 1 ≤ round }
         requires high { round ≤ 3 }
-        ensures { Gives (λ items. (items.items, self.new)) result (many (item_at sender round) count self.old) }
+        ensures { GivesRead (λ items. (items.items, self.new)) result (many (item_at sender round) count self.old) }
     {
         let mut items = Items::new(alloc);
         for _ in 0..count {
@@ -324,7 +324,7 @@ impl Reader<'_> {
     pub fn items(&mut self, alloc: Global, sender: Chan, round: u8) -> Result<Items, Unread>
         requires low { 1 ≤ round }
         requires high { round ≤ 3 }
-        ensures { Gives (λ items. (items.items, self.new)) result (items_at sender round self.old) }
+        ensures { GivesRead (λ items. (items.items, self.new)) result (items_at sender round self.old) }
     {
         let count = self.byte()?;
         if count > 30 {
@@ -339,7 +339,7 @@ impl Reader<'_> {
 
     /// Reads so many copies.
     fn read_copies(&mut self, alloc: Global, count: u8) -> Result<Copies, Unread>
-        ensures { Gives (λ copies. (copies.items, self.new)) result (many copy_at count self.old) }
+        ensures { GivesRead (λ copies. (copies.items, self.new)) result (many copy_at count self.old) }
     {
         let mut copies = Copies::new(alloc);
         for _ in 0..count {
@@ -351,7 +351,7 @@ impl Reader<'_> {
 
     #[tactic(auto, unfolding(guards_model::specs::Fields::swept_copies_at, guards_model::specs::Fields::counted_by))]
     pub fn swept_copies(&mut self, alloc: Global) -> Result<Copies, Unread>
-        ensures { Gives (λ copies. (copies.items, self.new)) result (swept_copies_at self.old) }
+        ensures { GivesRead (λ copies. (copies.items, self.new)) result (swept_copies_at self.old) }
     {
         let count = self.byte()?;
         if count < 1 || count > 64 {
@@ -366,7 +366,7 @@ impl Reader<'_> {
 
     #[tactic(auto, unfolding(guards_model::specs::Fields::final_copies_at, guards_model::specs::Fields::counted_by))]
     pub fn final_copies(&mut self, alloc: Global) -> Result<Copies, Unread>
-        ensures { Gives (λ copies. (copies.items, self.new)) result (final_copies_at self.old) }
+        ensures { GivesRead (λ copies. (copies.items, self.new)) result (final_copies_at self.old) }
     {
         let count = self.byte()?;
         if count > 64 {
@@ -382,7 +382,7 @@ impl Reader<'_> {
     /// Reads so many words, in front of zeros.
     fn ballot_words(&mut self, count: u8) -> Result<[i64; 8], Unread>
         requires { count ≤ 8 }
-        ensures { Gives (λ words. (take count words, self.new)) result (many word_at count self.old) }
+        ensures { GivesRead (λ words. (take count words, self.new)) result (many word_at count self.old) }
     {
         let mut words = [0; 8];
         self.fill_words(&mut words[..count as usize])?;
@@ -391,7 +391,7 @@ impl Reader<'_> {
 
     #[tactic(auto, unfolding(guards_model::specs::Fields::counted_by))]
     pub fn ballot(&mut self) -> Result<Ballot, Unread>
-        ensures { Gives (λ ballot. (ballot, self.new)) result (counted_by (between 1 8) word_at self.old) }
+        ensures { GivesRead (λ ballot. (ballot, self.new)) result (counted_by (between 1 8) word_at self.old) }
     {
         let count = self.byte()?;
         if count < 1 || count > 8 {

@@ -20,25 +20,25 @@ use Rattle.guards_laws.proofs.LogGrows.{length-cycles_before}
 use Rattle.guards_laws.proofs.RunRestores.{run_restores, run_only_whole}
 use Rattle.guards_laws.proofs.SwitchesFollow.{run_switches}
 use Rattle.guards_nodes.specs.NodeStates.{NodeValue}
-use Rattle.guards_world.specs.NodeFacts.{ledger_at, running_in, joiner_swept, joiner_in, state_in}
+use Rattle.guards_world.specs.NodeFacts.{ledger_at, running_value_in, joiner_swept, joiner_in, state_in}
 use Rattle.guards_model.specs.Settled.{SettledValue}
 use Rattle.guards_world.specs.Worlds.{WorldValue, HaltValue, settled_after}
 use Rattle.guards_world.specs.InCycle.{InCycle, node_in}
-use Rattle.world_laws.specs.Passing.{world_after}
+use Rattle.guards_world.specs.Passing.{world_after}
 use Rattle.guards_laws.proofs.CycleParts.{active-is}
 use Rattle.guards_runs.specs.Disturbed.{is_charge, disturbed_channels}
 use Rattle.world_laws.proofs.LedgerFollows.{ends, disturbed_are}
-use Rattle.world_laws.proofs.Passing.{all_carried}
-use Rattle.world_laws.proofs.Standing.{goes_on}
-use Rattle.world_nodes.specs.NodeLists.{TookContent, ended_on}
-use Rattle.world_steps.specs.Arrivals.{nodes_in}
-use Rattle.world_steps.proofs.SlotNodes.{all_ended}
+use Rattle.world_laws.proofs.SlotsEntered.{all_carried}
+use Rattle.world_laws.proofs.LogStands.{goes_on}
+use Rattle.guards_world.specs.NodeLists.{TookContent, ended_on}
+use Rattle.guards_world.specs.Arrivals.{nodes_in}
+use Rattle.node_laws.proofs.SlotNodes.{all_ended}
 use Rattle.icn_world.proofs.Handing.{all_nodes}
-use Rattle.icn_world.proofs.Taking.{took_by, kept_content}
+use Rattle.icn_world.proofs.ContentTaken.{took_by, kept_content}
 use Rattle.fault_script.specs.declared.disturbance.Disturbance.{Disturbance}
-use Rattle.icn_world.specs.Stages.{Inside}
+use Rattle.icn_world.specs.Stages.{IsWithinCycle}
 use Rattle.icn_world.specs.Restored.{sets_at, IsRestored}
-use Rattle.icn_world.specs.declared.restoring.Restored.{Restored}
+use Rattle.icn_world.specs.declared.restoring.SweepResult.{SweepResult}
 
 -- the switches follow the active set
 switches_now : (M : MissionValue) (L : Log) (n : ℕ) → EachCycle (Switches M) (cycles_before M L n) → switches_after M (cycles_before M L n) ≡ active_set M (cycles_before M L n)
@@ -97,7 +97,7 @@ module _ (M : MissionValue) (L now : Log) (steps : Steps) (w : WorldValue) (insi
   took taken whole q low =
       record {
         took = λ j is.
-            took_by taken q (running_in M past e steps 9 q) j (joiner_in M past e 9 q) (mode_in e q Switch)
+            took_by taken q (running_value_in M past e steps 9 q) j (joiner_in M past e 9 q) (mode_in e q Switch)
             (λ joins. whole q low joins ∙ sym (whole_takes q joins) ∙ sym (kept_content (content_taken M q past e) (joiner_swept M past e q) refl)) is;
       }
 
@@ -119,7 +119,7 @@ module _ (M : MissionValue) (L now : Log) (steps : Steps) (w : WorldValue) (insi
       ∙ ends M (L ++ now) past on taken (λ q low. ap (λ (s : ChannelSet). has s q) is) whole
 
 -- what is known of the cycle
-settled_is : (w : WorldValue) (L now : Log) (steps : Steps) (d : Disturbance) → Inside Switch 9 9 L now steps w d →
+settled_is : (w : WorldValue) (L now : Log) (steps : Steps) (d : Disturbance) → IsWithinCycle Switch 9 9 L now steps w d →
     ◌≡◌ {A = Option SettledValue} (Some (record { cycle = w.done; active = w.switches; disturbed = disturbed_by d.active d.charged w.ledger }))
     (settled_after (cycle_at w.mission (L ++ now) w.done ∷ cycles_before w.mission (L ++ now) w.done))
 settled_is w L now steps d stands =
@@ -159,16 +159,16 @@ ended_world w L now steps sent taken on nodes ledger settled inside whole sets o
 
 -- ---- the same of a world that was restored
 
-inside_of : (old w : WorldValue) (r : Restored) (L now : Log) (steps : Steps) (d : Disturbance) → w ≡ old → IsRestored r L now steps old d → InCycle w.mission L now steps Switch 9 9 w
+inside_of : (old w : WorldValue) (r : SweepResult) (L now : Log) (steps : Steps) (d : Disturbance) → w ≡ old → IsRestored r L now steps old d → InCycle w.mission L now steps Switch 9 9 w
 inside_of old w r L now steps d same held = subst (λ (x : WorldValue). InCycle x.mission L now steps Switch 9 9 x) (sym same) held.stands.inside
 
-pub may_end_by : (old w : WorldValue) (r : Restored) → w ≡ old → (d : Disturbance) → (L : Log) × (now : Log) × (steps : Steps) × IsRestored r L now steps old d →
+pub may_end_by : (old w : WorldValue) (r : SweepResult) → w ≡ old → (d : Disturbance) → (L : Log) × (now : Log) × (steps : Steps) × IsRestored r L now steps old d →
     All (TookContent r.taken) w.nodes
 may_end_by old w r same d held =
     let restored : IsRestored r held.0 held.1 held.2 w d = subst (λ (x : WorldValue). IsRestored r held.0 held.1 held.2 x d) (sym same) held.3 in
     all_took w.mission held.0 held.1 held.2 w restored.stands.inside r.taken restored.taken_are
 
-pub ends_by : (old w : WorldValue) (r : Restored) (L now : Log) (steps : Steps) (d : Disturbance) (on board : ChannelSet) (nodes : List NodeValue) (ledger : LedgerValue) (set was : ChannelSet) →
+pub ends_by : (old w : WorldValue) (r : SweepResult) (L now : Log) (steps : Steps) (d : Disturbance) (on board : ChannelSet) (nodes : List NodeValue) (ledger : LedgerValue) (set was : ChannelSet) →
     w ≡ old → IsRestored r L now steps old d → board ≡ switched_on w.switches r.sent → on ≡ board → nodes ≡ map (ended_on on) w.nodes → ledger ≡ ledger_at_end on r.taken w.ledger → set ≡ disturbed_by d.active d.charged w.ledger → was ≡ w.switches →
     record w { done = w.done + 1; nodes = nodes; ledger = ledger; switches = board; settled = Some (record { cycle = w.done; active = was; disturbed = set }) } ≡ world_after old.mission L now steps old.done old.carried
 ends_by old w r L now steps d on board nodes ledger set was same held o is k l s t =

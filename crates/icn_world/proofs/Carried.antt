@@ -15,18 +15,18 @@ use Rattle.guards_runs.specs.Cycles.{cycles_before, cycle_at}
 use Rattle.guards_runs.specs.Disturbed.{is_charge}
 use Rattle.guards_runs.specs.Due.{slot_carries}
 use Rattle.guards_laws.proofs.CycleParts.{active-is}
-use Rattle.guards_world.specs.Worlds.{WorldValue}
+use Rattle.guards_world.specs.Worlds.{WorldValue, past_in, facts_in}
 use Rattle.guards_world.specs.WorldCycle.{AreFull}
-use Rattle.world_laws.specs.Passing.{AreCarried, StopsIn, world_carried}
-use Rattle.world_laws.proofs.Passing.{take_all, carries_slot, stops_slot, alone}
-use Rattle.cycle_laws.specs.Ended.{SlotEnds}
-use Rattle.cycle_laws.specs.Fronts.{IsRunFront}
-use Rattle.cycle_laws.proofs.RunFronts.{run_front}
-use Rattle.cycle_laws.proofs.SlotEnding.{slot_ends}
-use Rattle.send_laws.proofs.Sending.{sent_whole, sent_few}
+use Rattle.guards_world.specs.Passing.{AreDueCarries, IsStopIn, world_carried}
+use Rattle.world_laws.proofs.SlotsEntered.{take_all, carries_slot, stops_slot, alone}
+use Rattle.world_laws.specs.Ended.{SlotEnds}
+use Rattle.world_laws.specs.Fronts.{IsRunFront}
+use Rattle.world_laws.proofs.RunFronts.{run_front}
+use Rattle.world_laws.proofs.SlotEnding.{slot_ends}
+use Rattle.world_laws.proofs.Sending.{sent_whole, sent_few}
 use Rattle.fault_script.specs.declared.disturbance.Disturbance.{Disturbance}
-use Rattle.icn_world.specs.Sent.{AreAllSent, AreFewSent}
-use Rattle.icn_world.specs.Stages.{past_in, facts_in, HaltsIn, MayCarry, HasArrived}
+use Rattle.icn_world.specs.Sent.{AreAllSent, AreFewSentBy}
+use Rattle.icn_world.specs.Stages.{HaltsIn, MayCarry, HasArrived}
 
 -- the senders are charged of whom one of these was not delivered as sent
 pub record AreCharged (slot : Slot) (new : Log) (w : WorldValue) (before after : Disturbance) : Type 0 where
@@ -41,17 +41,17 @@ module _ (slot : Slot) (to : List ℕ) (L now : Log) (steps : Steps) (w : WorldV
   sweep_full is = may.stands.full (subst (λ (s : Slot). slot_index Tasks < slot_index s) (sym is) (omega arith))
 
   -- as far as it was carried, it is a front of the run's due entries
-  pub few_carried : (few : ℕ) (new : Log) → AreFewSent L now slot to few w new → IsRunFront M L (now ++ new) w.done
+  pub few_carried : (few : ℕ) (new : Log) → AreFewSentBy L now slot to few w new → IsRunFront M L (now ++ new) w.done
   few_carried few new sent =
       run_front M L now new steps slot may.on w may.stands.inside few
       (sent_few M L now new steps slot to few w may.stands.inside sweep_full may.receivers_are sent)
 
   module _ (new : Log) (sent : AreAllSent L now slot to w new) where
-    carried : AreCarried M (L ++ now) w.done steps (slot_carries w.done (facts_in w (L ++ now)) slot) new
+    carried : AreDueCarries M (L ++ now) w.done steps (slot_carries w.done (facts_in w (L ++ now)) slot) new
     carried = sent_whole M L now new steps slot to w may.stands.inside sweep_full may.receivers_are sent
 
-    all_taken : AreCarried M (L ++ now) w.done steps (take (length (slot_carries w.done (facts_in w (L ++ now)) slot)) (slot_carries w.done (facts_in w (L ++ now)) slot)) new
-    all_taken = subst (λ ks. AreCarried M (L ++ now) w.done steps ks new) (sym (take_all (slot_carries w.done (facts_in w (L ++ now)) slot))) carried
+    all_taken : AreDueCarries M (L ++ now) w.done steps (take (length (slot_carries w.done (facts_in w (L ++ now)) slot)) (slot_carries w.done (facts_in w (L ++ now)) slot)) new
+    all_taken = subst (λ ks. AreDueCarries M (L ++ now) w.done steps ks new) (sym (take_all (slot_carries w.done (facts_in w (L ++ now)) slot))) carried
 
     pub all_carried : IsRunFront M L (now ++ new) w.done
     all_carried = run_front M L now new steps slot may.on w may.stands.inside (length (slot_carries w.done (facts_in w (L ++ now)) slot)) all_taken
@@ -78,7 +78,7 @@ module _ (slot : Slot) (to : List ℕ) (L now : Log) (steps : Steps) (w : WorldV
       pub stopped : (set : ChannelSet) → set ≡ disturbed_by after.active after.charged w.ledger → limit_reached after.active after.charged w.ledger ≡ true →
           HaltsIn L (now ++ new) steps (record { cycle = w.done; slot = slot; set = set; active = w.switches }) (world_carried (length new) w)
       stopped set set_is reached =
-          let stops : StopsIn M L (now ++ new) w.done steps slot =
+          let stops : IsStopIn M L (now ++ new) w.done steps slot =
           stops_slot M L now new steps slot may.on w may.stands.inside (length (slot_carries w.done (facts_in w (L ++ now)) slot)) all_taken refl (sym ends.halts ∙ reached) in
           let S : ChannelSet → ChannelSet → StopValue = λ disturbed active. record { cycle = w.done; slot = slot; set = disturbed; active = active } in
           let active_is : (cycle_at M (L ++ (now ++ new)) w.done).active ≡ w.switches =

@@ -11,12 +11,12 @@ use Rattle.std.specs.List.{AllByRecursion}
 use Rattle.std.specs.Result.{IsErrAnd}
 use Rattle.guards_world.specs.Worlds.{WorldValue}
 use Rattle.guards_world.specs.WorldCycle.{BusValue, Carries}
-use Rattle.cycle_laws.specs.Fronts.{IsRunFront}
+use Rattle.world_laws.specs.Fronts.{IsRunFront}
 use Rattle.fault_script.specs.declared.disturbance.Disturbance.{Disturbance}
 use Rattle.icn_world.specs.declared.world.Halt.{Halt}
 use Rattle.icn_world.specs.declared.world.Halt.TheVariants.{NoMemory}
-use Rattle.icn_world.specs.Kept.{IsKept}
-use Rattle.icn_world.specs.Stages.{Condition, Reaches, Goes}
+use Rattle.icn_world.specs.Kept.{IsWorldKept}
+use Rattle.icn_world.specs.Stages.{Condition, Reaches, PassesPart}
 
 pub carries_on : (may : List RuleValue → EntryValue → Type 0) (b b1 b2 : BusValue) (first second : Log) →
     Carries may b b1 first → Carries may b1 b2 second → Carries may b b2 (first ++ second)
@@ -36,7 +36,7 @@ counts_on n one two first second a b = omega (arith, a, b, length-append first s
 -- a part that ended well, and then another
 pub then : {A B : Type 0} {may : List RuleValue → EntryValue → Type 0} {P : Condition} {Q : A → Condition} {R : B → Condition}
     {x : A} {r : Result B Halt} {w w1 w2 : WorldValue} {d d1 d2 : Disturbance} {b b1 b2 : BusValue} →
-    Goes may P Q (Ok x) w w1 d d1 b b1 → Goes may (Q x) R r w1 w2 d1 d2 b1 b2 → Goes may P R r w w2 d d2 b b2
+    PassesPart may P Q (Ok x) w w1 d d1 b b1 → PassesPart may (Q x) R r w1 w2 d1 d2 b1 b2 → PassesPart may P R r w w2 d d2 b b2
 then {may = may} {R = R} {r = r} {w = w} {w1 = w1} {w2 = w2} {d2 = d2} {b = b} {b1 = b1} {b2 = b2} one two =
     record {
       entries = one.entries ++ two.entries;
@@ -52,7 +52,7 @@ then {may = may} {R = R} {r = r} {w = w} {w1 = w1} {w2 = w2} {d2 = d2} {b = b} {
 -- a part that halted: so the whole halts
 pub halted : {A B : Type 0} {may : List RuleValue → EntryValue → Type 0} {P : Condition} {Q : A → Condition} {R : B → Condition}
     {h : Halt} {w w1 : WorldValue} {d d1 : Disturbance} {b b1 : BusValue} →
-    Goes may P Q (Err h) w w1 d d1 b b1 → Goes may P R (Err h) w w1 d d1 b b1
+    PassesPart may P Q (Err h) w w1 d d1 b b1 → PassesPart may P R (Err h) w w1 d d1 b b1
 halted one =
     record {
       entries = one.entries;
@@ -71,15 +71,15 @@ err_is (Err x) h is = ap Err is
 -- the same, where a `?` takes on the halt
 pub halted_by : {A B : Type 0} {may : List RuleValue → EntryValue → Type 0} {P : Condition} {Q : A → Condition} {R : B → Condition}
     {h : Halt} {w w1 : WorldValue} {d d1 : Disturbance} {b b1 : BusValue} (r : Result B Halt) → IsErrAnd r (λ x. x ≡ h) →
-    Goes may P Q (Err h) w w1 d d1 b b1 → Goes may P R r w w1 d d1 b b1
+    PassesPart may P Q (Err h) w w1 d d1 b b1 → PassesPart may P R r w w1 d d1 b b1
 halted_by {may = may} {P = P} {R = R} {h = h} {w = w} {w1 = w1} {d = d} {d1 = d1} {b = b} {b1 = b1} r is one =
-    subst (λ (x : Result _ Halt). Goes may P R x w w1 d d1 b b1) (sym (err_is r h is)) (halted one)
+    subst (λ (x : Result _ Halt). PassesPart may P R x w w1 d d1 b b1) (sym (err_is r h is)) (halted one)
 
 -- a part that carries nothing
 pub without_carry : {A : Type 0} (may : List RuleValue → EntryValue → Type 0) (P : Condition) (Q : A → Condition)
     (r : Result A Halt) (w w1 : WorldValue) (d d1 : Disturbance) (b : BusValue) →
     w1.mission ≡ w.mission → w1.done ≡ w.done → w1.carried ≡ w.carried →
-    ((L now : Log) (steps : Steps) → P L now steps w d → Reaches Q r L now steps w1 d1) → Goes may P Q r w w1 d d1 b b
+    ((L now : Log) (steps : Steps) → P L now steps w d → Reaches Q r L now steps w1 d1) → PassesPart may P Q r w w1 d d1 b b
 without_carry may P Q r w w1 d d1 b mission done count ends =
     record {
       entries = [];
@@ -92,27 +92,27 @@ without_carry may P Q r w w1 d d1 b mission done count ends =
 
 -- a part that finds no memory, when what was carried before is a front of the run's due entries
 pub without_memory : {A : Type 0} (may : List RuleValue → EntryValue → Type 0) (P : Condition) (Q : A → Condition)
-    (r : Result A Halt) (w w1 : WorldValue) (d : Disturbance) (b : BusValue) → IsErrAnd r (λ x. x ≡ NoMemory) → IsKept w w1 →
-    ((L now : Log) (steps : Steps) → P L now steps w d → IsRunFront w.mission L now w.done) → Goes may P Q r w w1 d d b b
+    (r : Result A Halt) (w w1 : WorldValue) (d : Disturbance) (b : BusValue) → IsErrAnd r (λ x. x ≡ NoMemory) → IsWorldKept w w1 →
+    ((L now : Log) (steps : Steps) → P L now steps w d → IsRunFront w.mission L now w.done) → PassesPart may P Q r w w1 d d b b
 without_memory may P Q r w w1 d b none kept front =
-    subst (λ (x : Result _ Halt). Goes may P Q x w w1 d d b b) (sym (err_is r NoMemory none))
+    subst (λ (x : Result _ Halt). PassesPart may P Q x w w1 d d b b) (sym (err_is r NoMemory none))
     (without_carry may P Q (Err NoMemory) w w1 d d b kept.mission kept.done kept.carried
     (λ L now steps held. subst (λ (n : ℕ). IsRunFront w1.mission L now n) (sym kept.done)
     (subst (λ (M : MissionValue). IsRunFront M L now w.done) (sym kept.mission) (front L now steps held))))
 
 -- a step that carries nothing, and then a part
 pub after_step : {A : Type 0} {may : List RuleValue → EntryValue → Type 0} {P : Condition} {Q : A → Condition}
-    {r : Result A Halt} {w1 w2 : WorldValue} {d d2 : Disturbance} {b b2 : BusValue} (O : Condition) (w : WorldValue) → IsKept w w1 →
+    {r : Result A Halt} {w1 w2 : WorldValue} {d d2 : Disturbance} {b b2 : BusValue} (O : Condition) (w : WorldValue) → IsWorldKept w w1 →
     ((L now : Log) (steps : Steps) → O L now steps w d → P L now steps w1 d) →
-    Goes may P Q r w1 w2 d d2 b b2 → Goes may O Q r w w2 d d2 b b2
+    PassesPart may P Q r w1 w2 d d2 b b2 → PassesPart may O Q r w w2 d d2 b b2
 after_step {may = may} {P = P} {w1 = w1} {d = d} {b = b} O w kept step one =
     then {x = tt} (without_carry may O (λ (u : Unit {0}). P) (Ok tt) w w1 d d b kept.mission kept.done kept.carried step) one
 
 -- a part that ended well, and then a step that carries nothing
 pub then_step : {A B : Type 0} {may : List RuleValue → EntryValue → Type 0} {P : Condition} {Q : A → Condition}
-    {x : A} {w w1 : WorldValue} {d d1 : Disturbance} {b b1 : BusValue} (R : B → Condition) (y : B) (w2 : WorldValue) → IsKept w1 w2 →
+    {x : A} {w w1 : WorldValue} {d d1 : Disturbance} {b b1 : BusValue} (R : B → Condition) (y : B) (w2 : WorldValue) → IsWorldKept w1 w2 →
     ((L now : Log) (steps : Steps) → Q x L now steps w1 d1 → R y L now steps w2 d1) →
-    Goes may P Q (Ok x) w w1 d d1 b b1 → Goes may P R (Ok y) w w2 d d1 b b1
+    PassesPart may P Q (Ok x) w w1 d d1 b b1 → PassesPart may P R (Ok y) w w2 d d1 b b1
 then_step {may = may} {Q = Q} {x = x} {w1 = w1} {d1 = d1} {b1 = b1} R y w2 kept step one =
     then one (without_carry may (Q x) R (Ok y) w1 w2 d1 d1 b1 kept.mission kept.done kept.carried step)
 
@@ -125,7 +125,7 @@ reaches_more Q R (Err h) L now steps w d more held = held
 pub knowing : {A : Type 0} {may : List RuleValue → EntryValue → Type 0} {P : Condition} {Q : A → Condition}
     {r : Result A Halt} {w w1 : WorldValue} {d d1 : Disturbance} {b b1 : BusValue} (R : A → Condition) →
     ((x : A) (L now new : Log) (steps : Steps) → P L now steps w d → Q x L (now ++ new) steps w1 d1 → R x L (now ++ new) steps w1 d1) →
-    Goes may P Q r w w1 d d1 b b1 → Goes may P R r w w1 d d1 b b1
+    PassesPart may P Q r w w1 d d1 b b1 → PassesPart may P R r w w1 d d1 b b1
 knowing {Q = Q} {r = r} {w1 = w1} {d1 = d1} R more one =
     record {
       entries = one.entries;
@@ -141,7 +141,7 @@ knowing {Q = Q} {r = r} {w1 = w1} {d1 = d1} R more one =
 pub from : {A : Type 0} {may : List RuleValue → EntryValue → Type 0} {P : Condition} {Q : A → Condition}
     {r : Result A Halt} {w w1 : WorldValue} {d d1 : Disturbance} {b b1 : BusValue} (O : Condition) →
     ((L now : Log) (steps : Steps) → O L now steps w d → P L now steps w d) →
-    Goes may P Q r w w1 d d1 b b1 → Goes may O Q r w w1 d d1 b b1
+    PassesPart may P Q r w w1 d d1 b b1 → PassesPart may O Q r w w1 d d1 b b1
 from O weaker one =
     record {
       entries = one.entries;

@@ -11,21 +11,21 @@ use Rattle.guards_model.specs.Rounds.{Steps}
 use Rattle.guards_runs.specs.Cycles.{cycles_before, cycle_at}
 use Rattle.guards_runs.specs.Disturbed.{is_charge}
 use Rattle.guards_runs.specs.Due.{receivers}
-use Rattle.guards_world.specs.Worlds.{WorldValue}
+use Rattle.guards_world.specs.Worlds.{WorldValue, facts_in}
 use Rattle.guards_world.specs.InCycle.{InCycle}
 use Rattle.guards_world.specs.WorldCycle.{AreFull}
 use Rattle.fault_script.specs.declared.disturbance.Disturbance.{Disturbance}
-use Rattle.icn_world.specs.Kept.{IsKept}
-use Rattle.icn_world.specs.Stages.{facts_in, Inside, MayCarry}
+use Rattle.icn_world.specs.Kept.{IsWorldKept}
+use Rattle.icn_world.specs.Stages.{IsWithinCycle, MayCarry}
 
 -- what is true of the mission and of the count of cycles of a world stays so
-pub of_kept : (P : MissionValue → ℕ → Type 0) (old new : WorldValue) → IsKept old new → P old.mission old.done → P new.mission new.done
+pub of_kept : (P : MissionValue → ℕ → Type 0) (old new : WorldValue) → IsWorldKept old new → P old.mission old.done → P new.mission new.done
 of_kept P old new kept h = subst (λ (n : ℕ). P new.mission n) (sym kept.done) (subst (λ (M : MissionValue). P M old.done) (sym kept.mission) h)
 
 -- the world is still within the cycle, where the steps are known to be full if the tasks slot is handed over by now
-pub still_inside : (slot next : Slot) (carried handed most more : ℕ) (L now : Log) (steps : Steps) (old new : WorldValue) (d : Disturbance) → IsKept old new →
-    Inside slot carried handed L now steps old d → (slot_index Tasks < more → slot_index Tasks < handed) →
-    InCycle old.mission L now steps next most more new → Inside next most more L now steps new d
+pub still_inside : (slot next : Slot) (carried handed most more : ℕ) (L now : Log) (steps : Steps) (old new : WorldValue) (d : Disturbance) → IsWorldKept old new →
+    IsWithinCycle slot carried handed L now steps old d → (slot_index Tasks < more → slot_index Tasks < handed) →
+    InCycle old.mission L now steps next most more new → IsWithinCycle next most more L now steps new d
 still_inside slot next carried handed most more L now steps old new d kept within sooner inside =
     record {
       inside = subst (λ (M : MissionValue). InCycle M L now steps next most more new) (sym kept.mission) inside;
@@ -40,15 +40,15 @@ Enters slot old new =
     (L now : Log) (steps : Steps) (before : Slot) (carried handed : ℕ) → up_to before slot ≡ true → on_bus slot ≡ true →
     InCycle old.mission L now steps before carried handed old → InCycle old.mission L now steps slot carried handed new
 
-pub entered : (before slot : Slot) (carried handed : ℕ) (L now : Log) (steps : Steps) (old new : WorldValue) (d : Disturbance) → IsKept old new → Enters slot old new →
-    up_to before slot ≡ true → on_bus slot ≡ true → Inside before carried handed L now steps old d → Inside slot carried handed L now steps new d
+pub entered : (before slot : Slot) (carried handed : ℕ) (L now : Log) (steps : Steps) (old new : WorldValue) (d : Disturbance) → IsWorldKept old new → Enters slot old new →
+    up_to before slot ≡ true → on_bus slot ≡ true → IsWithinCycle before carried handed L now steps old d → IsWithinCycle slot carried handed L now steps new d
 entered before slot carried handed L now steps old new d kept enters soon on within =
     still_inside before slot carried handed carried handed L now steps old new d kept within (λ late. late)
     (enters L now steps before carried handed soon on within.inside)
 
 -- so the slot may be carried to these receivers
-pub may_carry : (before slot : Slot) (to : List ℕ) (L now : Log) (steps : Steps) (old new : WorldValue) (d : Disturbance) → IsKept old new → Enters slot old new →
-    up_to before slot ≡ true → on_bus slot ≡ true → Inside before (slot_index slot) (slot_index slot) L now steps old d →
+pub may_carry : (before slot : Slot) (to : List ℕ) (L now : Log) (steps : Steps) (old new : WorldValue) (d : Disturbance) → IsWorldKept old new → Enters slot old new →
+    up_to before slot ≡ true → on_bus slot ≡ true → IsWithinCycle before (slot_index slot) (slot_index slot) L now steps old d →
     receivers (facts_in old (L ++ now)) slot ≡ to → MayCarry slot to L now steps new d
 may_carry before slot to L now steps old new d kept enters soon on within are =
     record {

@@ -24,13 +24,13 @@ use Rattle.guards_world.specs.NodeFacts.{ledger_at}
 use Rattle.guards_world.specs.SlotSteps.{begins_to_join}
 use Rattle.guards_world.specs.Worlds.{WorldValue, StandsForWorld}
 use Rattle.guards_world.specs.InCycle.{InCycle, ledger_in}
-use Rattle.world_laws.specs.Passing.{world_in}
+use Rattle.guards_world.specs.Passing.{world_in}
 use Rattle.world_laws.proofs.LedgerFollows.{begins, enters, goes_on}
-use Rattle.world_laws.proofs.Passing.{enters_cycle, enters_slot}
-use Rattle.world_nodes.specs.NodeLists.{Bodies, MayOpen, opened_with, fallen_if, with_requests}
-use Rattle.world_steps.specs.Arrivals.{AreArrivals, nodes_in}
-use Rattle.world_steps.proofs.OpenNodes.{all_may_open, all_opened, all_entered}
-use Rattle.world_steps.proofs.SlotNodes.{all_fell, all_heard}
+use Rattle.world_laws.proofs.SlotsEntered.{enters_cycle, enters_slot}
+use Rattle.guards_world.specs.NodeLists.{Bodies, MayOpen, opened_with, fallen_if, with_requests}
+use Rattle.guards_world.specs.Arrivals.{AreArrivals, nodes_in}
+use Rattle.node_laws.proofs.OpenNodes.{all_may_open, all_opened, all_entered}
+use Rattle.node_laws.proofs.SlotNodes.{all_fell, all_heard}
 
 -- ---- the start
 

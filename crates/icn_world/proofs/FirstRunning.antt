@@ -12,10 +12,10 @@ use Rattle.guards_model.specs.Rounds.{Steps}
 use Rattle.guards_model.specs.Transfers.{TransferValue}
 use Rattle.guards_runs.specs.Cycles.{Past, Cycle, cycles_before, cycle_at, mode_in}
 use Rattle.guards_nodes.specs.NodeStates.{NodeValue, StateValue, RunningValue, JoinerValue, running_or_none}
-use Rattle.guards_world.specs.NodeFacts.{state_of_mode, running_in, joiner_in, state_in}
+use Rattle.guards_world.specs.NodeFacts.{state_of_mode, running_value_in, joiner_in, state_in}
 use Rattle.guards_world.specs.InCycle.{node_in}
-use Rattle.world_nodes.specs.NodeLists.{removed_in, first_removed, first_running}
-use Rattle.world_steps.specs.Arrivals.{nodes_in}
+use Rattle.guards_world.specs.NodeLists.{removed_in, first_removed, lowest_running}
+use Rattle.guards_world.specs.Arrivals.{nodes_in}
 
 none_is_some : {A : Type 0} (y : A) → None ≡ Some y → ⊥
 none_is_some y h = cc
@@ -65,7 +65,7 @@ module _ (M : MissionValue) (L : Log) (n : ℕ) (steps : Steps) where
   transfer_of blocks c sweeping None = refl
   transfer_of blocks c sweeping (Some t) = refl
 
-  transfer_decided : (q : Channel) → transfer_in (running_in M past e steps 4 q).control.sweeping ≡ e.transfer
+  transfer_decided : (q : Channel) → transfer_in (running_value_in M past e steps 4 q).control.sweeping ≡ e.transfer
   unfolding control_decided
   transfer_decided q = transfer_of M.rules.blocks (length past) _ e.transfer
 
@@ -77,12 +77,12 @@ module _ (M : MissionValue) (L : Log) (n : ℕ) (steps : Steps) where
     unfolding state_in
     removed_is =
         first_is removed_in first_removed (λ x. x ≡ e.removed) (node_in M L n steps Round3 4) (λ node nodes. refl)
-        (λ p x h. removed_of (running_in M past e steps 4 p) (joiner_in M past e 4 p) (mode_in e p Round3) e.removed x refl h)
-        q e.removed (ap removed_in (runs_up (running_in M past e steps 4 q) (joiner_in M past e 4 q) (mode_in e q Round3) is)) (channels_of M) there
+        (λ p x h. removed_of (running_value_in M past e steps 4 p) (joiner_in M past e 4 p) (mode_in e p Round3) e.removed x refl h)
+        q e.removed (ap removed_in (runs_up (running_value_in M past e steps 4 q) (joiner_in M past e 4 q) (mode_in e q Round3) is)) (channels_of M) there
 
-    pub transfer_is : (r : RunningValue) × (first_running (nodes_in M L n steps Round3 4) ≡ Some r) × (transfer_in r.control.sweeping ≡ e.transfer)
+    pub transfer_is : (r : RunningValue) × (lowest_running (nodes_in M L n steps Round3 4) ≡ Some r) × (transfer_in r.control.sweeping ≡ e.transfer)
     unfolding state_in
     transfer_is =
-        first_is running_or_none first_running (λ r. transfer_in r.control.sweeping ≡ e.transfer) (node_in M L n steps Round3 4) (λ node nodes. refl)
-        (λ p r h. ap (λ (x : RunningValue). transfer_in x.control.sweeping) (running_of (running_in M past e steps 4 p) r (joiner_in M past e 4 p) (mode_in e p Round3) h) ∙ transfer_decided p)
-        q (running_in M past e steps 4 q) (ap running_or_none (runs_up (running_in M past e steps 4 q) (joiner_in M past e 4 q) (mode_in e q Round3) is)) (channels_of M) there
+        first_is running_or_none lowest_running (λ r. transfer_in r.control.sweeping ≡ e.transfer) (node_in M L n steps Round3 4) (λ node nodes. refl)
+        (λ p r h. ap (λ (x : RunningValue). transfer_in x.control.sweeping) (running_of (running_value_in M past e steps 4 p) r (joiner_in M past e 4 p) (mode_in e p Round3) h) ∙ transfer_decided p)
+        q (running_value_in M past e steps 4 q) (ap running_or_none (runs_up (running_value_in M past e steps 4 q) (joiner_in M past e 4 q) (mode_in e q Round3) is)) (channels_of M) there

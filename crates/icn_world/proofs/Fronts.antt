@@ -8,10 +8,10 @@ use Rattle.guards_model.specs.Network.{Log}
 use Rattle.guards_model.specs.Rounds.{Steps}
 use Rattle.guards_world.specs.Worlds.{WorldValue}
 use Rattle.guards_world.specs.InCycle.{InCycle}
-use Rattle.world_laws.specs.Passing.{world_in}
-use Rattle.world_laws.proofs.Passing.{enters_slot}
-use Rattle.cycle_laws.specs.Fronts.{IsRunFront}
-use Rattle.cycle_laws.proofs.RunFronts.{run_front}
+use Rattle.guards_world.specs.Passing.{world_in}
+use Rattle.world_laws.proofs.SlotsEntered.{enters_slot}
+use Rattle.world_laws.specs.Fronts.{IsRunFront}
+use Rattle.world_laws.proofs.RunFronts.{run_front}
 
 -- where the next slot of the bus is this one
 pub is_front : (M : MissionValue) (L now : Log) (steps : Steps) (slot next : Slot) (handed : ℕ) (w : WorldValue) → on_bus next ≡ true →

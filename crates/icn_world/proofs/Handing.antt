@@ -16,13 +16,13 @@ use Rattle.guards_laws.proofs.CycleParts.{active-is}
 use Rattle.guards_laws.proofs.WithinChannels.{active_is_set}
 use Rattle.guards_runs.specs.Cycles.{cycles_before, cycle_at, mode_in}
 use Rattle.guards_nodes.specs.NodeStates.{DecidedValue, NodeValue, StateValue, running, fallen, resting, returning, RunningValue, JoinerValue}
-use Rattle.guards_world.specs.NodeFacts.{state_of_mode, running_in, joiner_in, state_in}
+use Rattle.guards_world.specs.NodeFacts.{state_of_mode, running_value_in, joiner_in, state_in}
 use Rattle.guards_world.specs.Worlds.{WorldValue}
 use Rattle.guards_world.specs.InCycle.{InCycle, node_in}
-use Rattle.world_nodes.specs.NodeLists.{Bodies, HasDecision, with_votes, with_finals}
-use Rattle.world_steps.specs.Arrivals.{AreArrivals, HaveWorked, nodes_in}
-use Rattle.world_steps.proofs.SlotNodes.{all_filled}
-use Rattle.world_steps.proofs.VoteNodes.{all_voted}
+use Rattle.guards_world.specs.NodeLists.{Bodies, HasDecision, with_votes, with_finals}
+use Rattle.guards_world.specs.Arrivals.{AreArrivals, HaveWorked, nodes_in}
+use Rattle.node_laws.proofs.SlotNodes.{all_filled}
+use Rattle.node_laws.proofs.VoteNodes.{all_voted}
 
 -- what is known of the node of each channel is known of all
 all_of : (P : NodeValue → Type 0) (a : Channel → NodeValue) → ((q : Channel) → q < 7 → P (a q)) → (qs : ChannelSet) → list_all is_channel qs ≡ true → All P (map a qs)
@@ -56,7 +56,7 @@ decision_of_vote M L n steps q =
       rules = refl;
       had = λ s is. (
         _,
-        had_by (running_in M (cycles_before M L n) (cycle_at M L n) steps 5 q) s (joiner_in M (cycles_before M L n) (cycle_at M L n) 5 q)
+        had_by (running_value_in M (cycles_before M L n) (cycle_at M L n) steps 5 q) s (joiner_in M (cycles_before M L n) (cycle_at M L n) 5 q)
             (mode_in (cycle_at M L n) q Vote) _ refl is,
       );
     }

@@ -16,14 +16,13 @@ use Rattle.guards_runs.specs.Cycles.{Cycle, cycles_before, cycle_at, mode_in}
 use Rattle.guards_runs.specs.ControlFacts.{closed_of, if_joined}
 use Rattle.guards_runs.specs.Restoration.{content_taken}
 use Rattle.guards_runs.specs.SlotFacts.{AreFromPlace}
-use Rattle.guards_world.specs.Worlds.{WorldValue}
+use Rattle.guards_world.specs.Worlds.{WorldValue, facts_in}
 use Rattle.guards_world.specs.InCycle.{InCycle}
-use Rattle.cycle_laws.proofs.Following.{follows}
+use Rattle.world_laws.proofs.Following.{follows}
 use Rattle.node_laws.proofs.Staying.{weaken}
-use Rattle.cycle_laws.proofs.Keeping.{rounds_later}
-use Rattle.icn_world.proofs.Taking.{taken_lasts}
+use Rattle.world_laws.proofs.SlotKept.{rounds_later}
+use Rattle.icn_world.proofs.ContentTaken.{taken_lasts}
 use Rattle.icn_world.specs.Restored.{HaveTaken}
-use Rattle.icn_world.specs.Stages.{facts_in}
 
 closed_same : (e x : Cycle) → x.joined ≡ e.joined → x.decision ≡ e.decision → x.remaining ≡ e.remaining → closed_of x ≡ closed_of e
 closed_same e x j d r =

@@ -12,24 +12,24 @@ use Rattle.fault_script.specs.declared.disturbance.Disturbance.{Disturbance}
 use Rattle.slot_traffic.specs.Pieces.{ArrivedValue}
 use Rattle.icn_world.specs.declared.world.Halt.{Halt}
 use Rattle.icn_world.specs.declared.rounds.Reconfiguration.{Reconfiguration}
-use Rattle.icn_world.specs.Stages.{Condition, Goes, Inside, HasArrived}
+use Rattle.icn_world.specs.Stages.{Condition, PassesPart, IsWithinCycle, HasArrived}
 use Rattle.icn_world.specs.Settled.{MayEnter, IsDecided, IsSettled}
 use Rattle.icn_world.proofs.Chaining.{then, from, knowing, then_step}
-use Rattle.icn_world.proofs.Settling.{settled_stays}
+use Rattle.icn_world.proofs.RoundStages.{settled_stays}
 
 -- the part leaves the world in a slot, from which the next one may be entered
 abbrev pub Leaves : Condition → Slot → Slot → WorldValue → Disturbance → Type 0
-Leaves Q before slot w d = (L now : Log) (steps : Steps) → Q L now steps w d → Inside before (slot_index slot) (slot_index slot) L now steps w d
+Leaves Q before slot w d = (L now : Log) (steps : Steps) → Q L now steps w d → IsWithinCycle before (slot_index slot) (slot_index slot) L now steps w d
 
 pub then_slot : {A B : Type 0} {may : List RuleValue → EntryValue → Type 0} {P : Condition} {Q : A → Condition} {R : B → Condition}
     {x : A} {r : Result B Halt} {w w1 w2 : WorldValue} {d d1 d2 : Disturbance} {b b1 b2 : BusValue} (before slot : Slot) → up_to before slot ≡ true →
-    Leaves (Q x) before slot w1 d1 → Goes may P Q (Ok x) w w1 d d1 b b1 → Goes may (MayEnter slot) R r w1 w2 d1 d2 b1 b2 → Goes may P R r w w2 d d2 b b2
+    Leaves (Q x) before slot w1 d1 → PassesPart may P Q (Ok x) w w1 d d1 b b1 → PassesPart may (MayEnter slot) R r w1 w2 d1 d2 b1 b2 → PassesPart may P R r w w2 d d2 b b2
 then_slot {Q = Q} {x = x} before slot soon leaves one two =
     then one (from (Q x) (λ L now steps held. record { before = before; soon = soon; stands = leaves L now steps held }) two)
 
 pub may_enter_then : {A : Type 0} {may : List RuleValue → EntryValue → Type 0} {P : Condition} {Q : A → Condition}
     {x : A} {w w1 : WorldValue} {d d1 : Disturbance} {b b1 : BusValue} (before slot : Slot) → up_to before slot ≡ true →
-    Leaves (Q x) before slot w1 d1 → (L : Log) × (now : Log) × (steps : Steps) × P L now steps w d → Goes may P Q (Ok x) w w1 d d1 b b1 →
+    Leaves (Q x) before slot w1 d1 → (L : Log) × (now : Log) × (steps : Steps) × P L now steps w d → PassesPart may P Q (Ok x) w w1 d d1 b b1 →
     (L : Log) × (now : Log) × (steps : Steps) × MayEnter slot L now steps w1 d1
 may_enter_then before slot soon leaves held one = (
   held.0,
@@ -40,8 +40,8 @@ may_enter_then before slot soon leaves held one = (
 
 -- the rounds are over, and the tasks slot is carried
 pub then_settled : {may : List RuleValue → EntryValue → Type 0} {P : Condition} {w w1 w2 : WorldValue} {d d1 d2 : Disturbance} {b b1 b2 : BusValue}
-    (settled : Reconfiguration) (arrived : ArrivedValue) → Goes may P IsDecided (Ok settled) w w1 d d1 b b1 →
-    Goes may (MayEnter Tasks) (HasArrived Tasks) (Ok arrived) w1 w2 d1 d2 b1 b2 → Goes may P IsSettled (Ok settled) w w2 d d2 b b2
+    (settled : Reconfiguration) (arrived : ArrivedValue) → PassesPart may P IsDecided (Ok settled) w w1 d d1 b b1 →
+    PassesPart may (MayEnter Tasks) (HasArrived Tasks) (Ok arrived) w1 w2 d1 d2 b1 b2 → PassesPart may P IsSettled (Ok settled) w w2 d d2 b b2
 then_settled {w1 = w1} {w2 = w2} {d1 = d1} {d2 = d2} settled arrived one two =
     then one
     (then_step IsSettled settled w2 (record { mission = refl; done = refl; carried = refl }) (λ L now steps held. held)

@@ -12,12 +12,12 @@ use Rattle.guards_world.specs.NodeFacts.{received_through}
 use Rattle.guards_world.specs.Worlds.{WorldValue}
 use Rattle.guards_world.specs.InCycle.{InCycle}
 use Rattle.slot_traffic.specs.Pieces.{ArrivedValue}
-use Rattle.world_nodes.specs.NodeLists.{Bodies, AllReceived, with_exchanges, MayReceive, AreOfRound}
-use Rattle.world_steps.specs.Arrivals.{AreArrivals}
+use Rattle.guards_world.specs.NodeLists.{Bodies, AllReceived, with_exchanges, MayReceive, AreOfRound}
+use Rattle.guards_world.specs.Arrivals.{AreArrivals}
 use Rattle.world_traffic.specs.Reading.{got_of}
-use Rattle.arrival_laws.proofs.OfRound.{of_round}
+use Rattle.node_laws.proofs.OfRound.{of_round}
 use Rattle.icn_world.specs.Settled.{nodes_received}
-use Rattle.icn_world.proofs.RoundNodes.{number_is, tested, may_be_received, nodes_are_received, nothing_is_received}
+use Rattle.icn_world.proofs.WorldReceived.{number_is, tested, may_be_received, nodes_are_received, nothing_is_received}
 
 -- the slot of a round is carried, and this arrived
 abbrev IsCarried : WorldValue → Slot → Bodies → Type 0

@@ -27,14 +27,14 @@ use Rattle.guards_nodes.specs.NodeStates.{NodeValue, StateValue, running, fallen
 use Rattle.guards_nodes.specs.NodeSteps.{Received, StandsFor, TreeStandsFor, tree_for, with_items}
 use Rattle.guards_nodes.specs.NodeCalls.{on_running}
 use Rattle.guards_world.specs.NodeFacts as facts
-use Rattle.guards_world.specs.NodeFacts.{state_of_mode, running_in, joiner_in, received_through, state_in}
+use Rattle.guards_world.specs.NodeFacts.{state_of_mode, running_value_in, joiner_in, received_through, state_in}
 use Rattle.guards_world.specs.SlotSteps.{with_round}
 use Rattle.guards_world.specs.InCycle.{node_in}
 use Rattle.node_laws.proofs.Hearing.{receives, none_received}
 use Rattle.node_laws.proofs.Owing.{stands}
-use Rattle.world_nodes.specs.NodeLists.{Bodies, after_exchanges, with_exchanges, with_decisions, tree_in, MayReceive, StandsAt, MayDecide}
-use Rattle.world_steps.specs.Arrivals.{AreArrivals, nodes_in}
-use Rattle.world_steps.proofs.RoundNodes.{all_first, all_second, no_second, all_decided, all_decided_early}
+use Rattle.guards_world.specs.NodeLists.{Bodies, after_exchanges, with_exchanges, with_decisions, tree_in, MayReceive, StandsForReceived, MayDecide}
+use Rattle.guards_world.specs.Arrivals.{AreArrivals, nodes_in}
+use Rattle.node_laws.proofs.RoundNodes.{all_first, all_second, no_second, all_decided, all_decided_early}
 use Rattle.icn_world.specs.Settled.{nodes_received}
 use Rattle.icn_world.proofs.Handing.{all_nodes}
 
@@ -118,7 +118,7 @@ module _ (M : MissionValue) (L : Log) (n : ℕ) (steps : Steps) (mission : IsMis
       MayReceive round e.active (received_through M past e round) (node_in M L n steps slot round q)
   unfolding state_in
   may_of slot round fresh there q =
-      let held = λ (t : ExchangeTreeValue). held_by (running_in M past e steps round q) (joiner_in M past e round q) (mode_in e q slot) t (facts.tree_in M past e round q) refl in
+      let held = λ (t : ExchangeTreeValue). held_by (running_value_in M past e steps round q) (joiner_in M past e round q) (mode_in e q slot) t (facts.tree_value_in M past e round q) refl in
       record {
         stands = stands M past e steps slot round q;
         fresh = fresh q;
@@ -194,18 +194,18 @@ module _ (M : MissionValue) (L : Log) (n : ℕ) (steps : Steps) (mission : IsMis
   abbrev receive_last : Bodies → NodeValue → NodeValue
   receive_last got = with_exchanges 3 e.active got (received_through M past e 3)
 
-  pub last_stand : (got : Bodies) → AreArrivals M L n Round3 got → All (StandsAt (received_through M past e 4)) (last_nodes got)
+  pub last_stand : (got : Bodies) → AreArrivals M L n Round3 got → All (StandsForReceived (received_through M past e 4)) (last_nodes got)
   last_stand got are =
-      let P : NodeValue → Type 0 = StandsAt (received_through M past e 4) in
+      let P : NodeValue → Type 0 = StandsForReceived (received_through M past e 4) in
       either_holds (All P) (is_round e 3) (map (receive_last got) (nodes_in M L n steps Round3 3)) (nodes_in M L n steps Round3 3)
-      (λ there. all_made (StandsAt (received_through M past e 3)) P (receive_last got)
+      (λ there. all_made (StandsForReceived (received_through M past e 3)) P (receive_last got)
       (λ node was. record {
         stands =
             stands_after 3 (λ j. items_of (got j node.channel)) (received_through M past e 3 node.channel) (received_through M past e 4 node.channel)
             (without e.active (node.channel ∷ [])) node.state (last_received got are there node.channel);
       })
       (nodes_in M L n steps Round3 3)
-      (all_nodes M (StandsAt (received_through M past e 3)) (node_in M L n steps Round3 3) mission (λ q low. record { stands = stands M past e steps Round3 3 q })))
+      (all_nodes M (StandsForReceived (received_through M past e 3)) (node_in M L n steps Round3 3) mission (λ q low. record { stands = stands M past e steps Round3 3 q })))
       (λ none. all_nodes M P (node_in M L n steps Round3 3) mission
       (λ q low. record {
         stands = subst (λ (x : Received). StandsFor (state_in M past e steps Round3 3 q) x) (none_received M past e q 3 none) (stands M past e steps Round3 3 q);
@@ -217,8 +217,8 @@ module _ (M : MissionValue) (L : Log) (n : ℕ) (steps : Steps) (mission : IsMis
       record {
         rules = refl;
         begun = λ r is. (
-          facts.tree_in M past e 3 q,
-          begun_by (running_in M past e steps 3 q) r (joiner_in M past e 3 q) (mode_in e q Round3) (facts.tree_in M past e 3 q) refl is,
+          facts.tree_value_in M past e 3 q,
+          begun_by (running_value_in M past e steps 3 q) r (joiner_in M past e 3 q) (mode_in e q Round3) (facts.tree_value_in M past e 3 q) refl is,
         );
       }
 

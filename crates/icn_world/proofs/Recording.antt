@@ -19,11 +19,11 @@ use Rattle.guards_model.proofs.BoolTests.{both}
 use Rattle.guards_model.proofs.AscendingLists.{set_parts}
 use Rattle.guards_model.proofs.Tables.{at-by_channel}
 use Rattle.guards_runs.specs.Cycles.{Cycle, CycleStart, cycles_before, cycle_at, mode_in}
-use Rattle.guards_runs.specs.Report.{line_of, running_in, remaining_in, cycle_record}
+use Rattle.guards_runs.specs.Report.{line_of, channels_running_in, remaining_in, cycle_record}
 use Rattle.guards_laws.proofs.CycleParts.{active-is, up_in_slot}
 use Rattle.guards_laws.proofs.WithinChannels.{active_is_set}
 use Rattle.guards_world.specs.InCycle.{ledger_in}
-use Rattle.guards_world.specs.WorldCycle.{IsPadded}
+use Rattle.guards_world.specs.WorldCycle.{IsLinePadded}
 use Rattle.icn_world.specs.Told.{shown_of, AreLinesOf, of_channels_up}
 
 -- ---- filters
@@ -98,10 +98,10 @@ lines_at_end M L n mission lines are =
     subst (λ (s : ChannelSet). list_all is_channel s ≡ true) (sym (active-is M L past)) (set_parts _ (active_is_set M past mission)).0 in (
       filter_shown (shown_of M) t (λ l. refl) lines
           ∙ ap (filter (λ (l : LineValue). t l.channel)) are.0
-          ∙ filter_lines (line_of M e) t (λ q. refl) (running_in Vote e)
+          ∙ filter_lines (line_of M e) t (λ q. refl) (channels_running_in Vote e)
           ∙ ap (map (line_of M e))
           (filters_twice t u v (λ q small. ap (λ b. u q && b) (now q small) ∙ both_up (u q) (v q) (up_in_slot M L past q Vote Switch small refl)) e.active low),
-      all_left (IsPadded M) (λ l. t l.channel) lines are.1,
+      all_left (IsLinePadded M) (λ l. t l.channel) lines are.1,
     )
 
 -- ---- what stays
@@ -109,7 +109,7 @@ lines_at_end M L n mission lines are =
 running_by : Slot → CycleStart → ChannelSet
 running_by slot o = filter (λ p. is_up (place_or (place_or o.modes (slot_index slot) []) p down)) o.active
 
-pub running_stays : (slot : Slot) (e e' : Cycle) → e'.opening ≡ e.opening → running_in slot e' ≡ running_in slot e
+pub running_stays : (slot : Slot) (e e' : Cycle) → e'.opening ≡ e.opening → channels_running_in slot e' ≡ channels_running_in slot e
 unfolding running_by
 running_stays slot e e' same = ap (running_by slot) same
 
@@ -121,7 +121,7 @@ map_alike f g same (q ∷ qs) = ap (λ x. x ∷ map f qs) (same q) ∙ ap (λ xs
 pub lines_stay : (M : MissionValue) (e e' : Cycle) (lines : List LineValue) → e'.opening ≡ e.opening → ((q : Channel) → line_of M e' q ≡ line_of M e q) →
     AreLinesOf M e Vote lines → AreLinesOf M e' Vote lines
 lines_stay M e e' lines opening same are =
-    (are.0 ∙ sym (map_alike (line_of M e') (line_of M e) same (running_in Vote e)) ∙ ap (map (line_of M e')) (sym (running_stays Vote e e' opening)), are.1)
+    (are.0 ∙ sym (map_alike (line_of M e') (line_of M e) same (channels_running_in Vote e)) ∙ ap (map (line_of M e')) (sym (running_stays Vote e e' opening)), are.1)
 
 -- ---- the record
 
@@ -136,10 +136,10 @@ record_alike c c' a a' t t' l l' tr tr' r r' j j' m m' e1 e2 e3 e4 e5 e6 e7 e8 =
 -- what is shown of a record of these parts is the record of the cycle
 pub record_shown : (M : MissionValue) (steps : Steps) (n : ℕ) (e : Cycle) (active : ChannelSet) (transfer : Option TransferValue) (lines : List LineValue) (traces : List TraceValue)
     (removed joined : ChannelSet) (remaining : Option ℕ) → active ≡ e.active → transfer ≡ e.transfer → AreLinesOf M e Switch lines →
-    traces ≡ map (λ p. record { channel = p; steps = steps_of steps p }) (running_in Tasks e) → removed ≡ e.removed → joined ≡ e.joined → remaining ≡ remaining_in e →
+    traces ≡ map (λ p. record { channel = p; steps = steps_of steps p }) (channels_running_in Tasks e) → removed ≡ e.removed → joined ≡ e.joined → remaining ≡ remaining_in e →
     shown M.rules.channels M.width (length M.outputs)
     (record { cycle = n; active = active; transfer = transfer; lines = lines; traces = traces; removed = removed; joined = joined; remaining = remaining })
     ≡ cycle_record M steps n e
 record_shown M steps n e active transfer lines traces removed joined remaining a t l tr r j m =
-    record_alike n n active e.active transfer e.transfer (map (shown_of M) lines) (map (line_of M e) (running_in Switch e)) traces
-    (map (λ p. record { channel = p; steps = steps_of steps p }) (running_in Tasks e)) removed e.removed joined e.joined remaining (remaining_in e) refl a t l.0 tr r j m
+    record_alike n n active e.active transfer e.transfer (map (shown_of M) lines) (map (line_of M e) (channels_running_in Switch e)) traces
+    (map (λ p. record { channel = p; steps = steps_of steps p }) (channels_running_in Tasks e)) removed e.removed joined e.joined remaining (remaining_in e) refl a t l.0 tr r j m

@@ -11,21 +11,21 @@ use Rattle.guards_model.specs.Rounds.{Steps}
 use Rattle.guards_model.specs.Switchboard.{set_of}
 use Rattle.guards_runs.specs.Cycles.{cycle_at}
 use Rattle.guards_runs.specs.ControlFacts.{closed_of}
-use Rattle.guards_world.specs.Worlds.{WorldValue}
+use Rattle.guards_world.specs.Worlds.{WorldValue, facts_in}
 use Rattle.guards_world.specs.InCycle.{InCycle}
 use Rattle.guards_world.specs.WorldCycle.{BusValue}
 use Rattle.control_state.specs.declared.control.Closed.{Closed}
-use Rattle.node_rounds.specs.Closing.{closed_value}
+use Rattle.channel_node.specs.Closing.{closed_value}
 use Rattle.fault_script.specs.declared.disturbance.Disturbance.{Disturbance}
 use Rattle.slot_traffic.specs.Pieces.{ArrivedValue}
-use Rattle.world_steps.specs.Arrivals.{AreArrivals}
-use Rattle.world_steps.proofs.SlotNodes.{all_switched}
+use Rattle.guards_world.specs.Arrivals.{AreArrivals}
+use Rattle.node_laws.proofs.SlotNodes.{all_switched}
 use Rattle.world_traffic.specs.Reading.{got_of}
 use Rattle.icn_world.specs.declared.world.Halt.{Halt}
-use Rattle.icn_world.specs.declared.restoring.Restored.{Restored}
-use Rattle.icn_world.specs.Kept.{IsKept}
-use Rattle.icn_world.specs.Restored.{HaveTaken, MayRestore, IsClosed, MayTake, IsTaken, IsSwitched, IsRestored}
-use Rattle.icn_world.specs.Stages.{facts_in, Inside, MayCarry, HasArrived, Goes}
+use Rattle.icn_world.specs.declared.restoring.SweepResult.{SweepResult}
+use Rattle.icn_world.specs.Kept.{IsWorldKept}
+use Rattle.icn_world.specs.Restored.{HaveTaken, MayRestore, HasClosed, MayTakeContent, IsTaken, IsSwitched, IsRestored}
+use Rattle.icn_world.specs.Stages.{IsWithinCycle, MayCarry, HasArrived, PassesPart}
 use Rattle.icn_world.proofs.AfterCycle.{whole_takes}
 use Rattle.icn_world.proofs.Chaining.{then, then_step, halted_by, knowing, from}
 use Rattle.icn_world.proofs.Entered.{Enters, may_carry, still_inside, of_kept}
@@ -33,31 +33,31 @@ use Rattle.icn_world.proofs.Lasting.{closed_later, taken_later}
 
 -- ---- each slot
 
-pub may_sweep : (targets : ChannelSet) (w w1 : WorldValue) (d : Disturbance) → IsKept w w1 → Enters Sweep w w1 → (L now : Log) (steps : Steps) →
+pub may_sweep : (targets : ChannelSet) (w w1 : WorldValue) (d : Disturbance) → IsWorldKept w w1 → Enters Sweep w w1 → (L now : Log) (steps : Steps) →
     MayRestore targets L now steps w d → MayCarry Sweep targets L now steps w1 d
 may_sweep targets w w1 d kept enters L now steps held =
     may_carry Vote Sweep targets L now steps w w1 d kept enters refl refl held.stands (sym held.targets_are)
 
-pub may_take : (joined : ChannelSet) (w w1 : WorldValue) (d : Disturbance) → IsKept w w1 → Enters Final w w1 → (L now : Log) (steps : Steps) →
-    MayTake joined L now steps w d → MayCarry Final joined L now steps w1 d
+pub may_take : (joined : ChannelSet) (w w1 : WorldValue) (d : Disturbance) → IsWorldKept w w1 → Enters Final w w1 → (L now : Log) (steps : Steps) →
+    MayTakeContent joined L now steps w d → MayCarry Final joined L now steps w1 d
 may_take joined w w1 d kept enters L now steps held =
     may_carry Sweep Final joined L now steps w w1 d kept enters refl refl held.stands (sym held.joined_are)
 
-pub may_switch : (w w1 : WorldValue) (d : Disturbance) → IsKept w w1 → Enters Switch w w1 → (L now : Log) (steps : Steps) →
-    Inside Final 8 8 L now steps w d → MayCarry Switch (switchboard ∷ []) L now steps w1 d
+pub may_switch : (w w1 : WorldValue) (d : Disturbance) → IsWorldKept w w1 → Enters Switch w w1 → (L now : Log) (steps : Steps) →
+    IsWithinCycle Final 8 8 L now steps w d → MayCarry Switch (switchboard ∷ []) L now steps w1 d
 may_switch w w1 d kept enters L now steps held = may_carry Final Switch (switchboard ∷ []) L now steps w w1 d kept enters refl refl held refl
 
-pub closes : (arrived : ArrivedValue) (closed : Closed) (w x : WorldValue) (d : Disturbance) → IsKept w x →
+pub closes : (arrived : ArrivedValue) (closed : Closed) (w x : WorldValue) (d : Disturbance) → IsWorldKept w x →
     ((L now : Log) (steps : Steps) → InCycle w.mission L now steps Sweep 7 6 w → AreArrivals w.mission (L ++ now) w.done Sweep (got_of arrived) → InCycle w.mission L now steps Sweep 7 7 x) →
     ((L now : Log) (steps : Steps) → InCycle w.mission L now steps Sweep 7 6 w → closed_value closed ≡ closed_of (cycle_at w.mission (L ++ now) w.done)) →
-    (L now : Log) (steps : Steps) → HasArrived Sweep arrived L now steps w d → IsClosed closed L now steps x d
+    (L now : Log) (steps : Steps) → HasArrived Sweep arrived L now steps w d → HasClosed closed L now steps x d
 closes arrived closed w x d kept state answer L now steps has =
     record {
       stands = still_inside Sweep Sweep 7 6 7 7 L now steps w x d kept has.stands (λ late. omega arith) (state L now steps has.stands.inside has.arrivals);
       closed_is = of_kept (λ M n. closed_value closed ≡ closed_of (cycle_at M (L ++ now) n)) w x kept (answer L now steps has.stands.inside);
     }
 
-pub takes : (arrived : ArrivedValue) (taken : ChannelSet) (w x : WorldValue) (d : Disturbance) → IsKept w x →
+pub takes : (arrived : ArrivedValue) (taken : ChannelSet) (w x : WorldValue) (d : Disturbance) → IsWorldKept w x →
     ((L now : Log) (steps : Steps) → InCycle w.mission L now steps Final 8 7 w → AreArrivals w.mission (L ++ now) w.done Final (got_of arrived) → InCycle w.mission L now steps Final 8 8 x) →
     ((L now : Log) (steps : Steps) → InCycle w.mission L now steps Final 8 7 w → AreArrivals w.mission (L ++ now) w.done Final (got_of arrived) → HaveTaken taken w.mission (L ++ now) w.done steps) →
     (L now : Log) (steps : Steps) → HasArrived Final arrived L now steps w d → IsTaken taken L now steps x d
@@ -85,7 +85,7 @@ switched M L now steps w inside =
       switches = inside.switches;
     }
 
-pub nothing_kept : (w : WorldValue) → IsKept w w
+pub nothing_kept : (w : WorldValue) → IsWorldKept w w
 nothing_kept w = record { mission = refl; done = refl; carried = refl }
 
 pub sends : (arrived : ArrivedValue) (sent : List (Option ChannelSet)) (w : WorldValue) (d : Disturbance) → sent ≡ by_channel (λ j. set_of (got_of arrived j switchboard)) →
@@ -103,14 +103,14 @@ record IsFilled (closed : Closed) (taken : ChannelSet) (L now : Log) (steps : St
   pub stands : IsTaken taken L now steps w d
   pub closed_is : closed_value closed ≡ closed_of (facts_in w (L ++ now))
 
-may_go_on : (closed : Closed) (w : WorldValue) (d : Disturbance) (L now : Log) (steps : Steps) → IsClosed closed L now steps w d → MayTake closed.joined L now steps w d
+may_go_on : (closed : Closed) (w : WorldValue) (d : Disturbance) (L now : Log) (steps : Steps) → HasClosed closed L now steps w d → MayTakeContent closed.joined L now steps w d
 may_go_on closed w d L now steps held = record { stands = held.stands; joined_are = ap (λ c. c.joined) held.closed_is }
 
-abbrev pub restored_of : Closed → ChannelSet → List (Option ChannelSet) → Restored
+abbrev pub restored_of : Closed → ChannelSet → List (Option ChannelSet) → SweepResult
 restored_of closed taken sent = record { joined = closed.joined; remaining = closed.remaining; taken = taken; sent = sent }
 
 module _ {may : List RuleValue → EntryValue → Type 0} (closed : Closed) (w w1 : WorldValue) (d d1 : Disturbance) (b b1 : BusValue) where
-  filled : {r : Result ChannelSet Halt} → Goes may (MayTake closed.joined) IsTaken r w w1 d d1 b b1 → Goes may (IsClosed closed) (IsFilled closed) r w w1 d d1 b b1
+  filled : {r : Result ChannelSet Halt} → PassesPart may (MayTakeContent closed.joined) IsTaken r w w1 d d1 b b1 → PassesPart may (HasClosed closed) (IsFilled closed) r w w1 d d1 b b1
   filled one =
       knowing (IsFilled closed)
       (λ taken L now new steps held has.
@@ -118,11 +118,11 @@ module _ {may : List RuleValue → EntryValue → Type 0} (closed : Closed) (w w
         stands = has;
         closed_is = closed_later L now new steps Sweep Final 7 7 8 8 w w1 one.mission one.done held.stands.inside has.stands.inside (omega arith) (closed_value closed) held.closed_is;
       })
-      (from (IsClosed closed) (may_go_on closed w d) one)
+      (from (HasClosed closed) (may_go_on closed w d) one)
 
   module _ (taken : ChannelSet) where
-    restored : {r : Result (List (Option ChannelSet)) Halt} → Goes may (Inside Final 8 8) IsSwitched r w w1 d d1 b b1 →
-        Goes may (IsFilled closed taken) (λ sent. IsRestored (restored_of closed taken sent)) r w w1 d d1 b b1
+    restored : {r : Result (List (Option ChannelSet)) Halt} → PassesPart may (IsWithinCycle Final 8 8) IsSwitched r w w1 d d1 b b1 →
+        PassesPart may (IsFilled closed taken) (λ sent. IsRestored (restored_of closed taken sent)) r w w1 d d1 b b1
     restored one =
         knowing (λ sent. IsRestored (restored_of closed taken sent))
         (λ sent L now new steps held has.
@@ -142,18 +142,18 @@ module _ {may : List RuleValue → EntryValue → Type 0} (closed : Closed) (w w
 -- ---- the three slots
 
 module _ {may : List RuleValue → EntryValue → Type 0} (targets : ChannelSet) (closed : Closed) (w w1 w2 : WorldValue) (d d1 d2 : Disturbance) (b b1 b2 : BusValue)
-    (first : Goes may (MayRestore targets) IsClosed (Ok closed) w w1 d d1 b b1) where
-  pub taking_halts : {h : Halt} (r : Result Restored Halt) → IsErrAnd r (λ x. x ≡ h) → Goes may (MayTake closed.joined) IsTaken (Err h) w1 w2 d1 d2 b1 b2 →
-      Goes may (MayRestore targets) IsRestored r w w2 d d2 b b2
+    (first : PassesPart may (MayRestore targets) HasClosed (Ok closed) w w1 d d1 b b1) where
+  pub taking_halts : {h : Halt} (r : Result SweepResult Halt) → IsErrAnd r (λ x. x ≡ h) → PassesPart may (MayTakeContent closed.joined) IsTaken (Err h) w1 w2 d1 d2 b1 b2 →
+      PassesPart may (MayRestore targets) IsRestored r w w2 d d2 b b2
   taking_halts r is second = then first (halted_by r is (filled closed w1 w2 d1 d2 b1 b2 second))
 
-  module _ (taken : ChannelSet) (second : Goes may (MayTake closed.joined) IsTaken (Ok taken) w1 w2 d1 d2 b1 b2) where
-    pub switching_halts : (w3 : WorldValue) (d3 : Disturbance) (b3 : BusValue) {h : Halt} (r : Result Restored Halt) → IsErrAnd r (λ x. x ≡ h) →
-        Goes may (Inside Final 8 8) IsSwitched (Err h) w2 w3 d2 d3 b2 b3 → Goes may (MayRestore targets) IsRestored r w w3 d d3 b b3
+  module _ (taken : ChannelSet) (second : PassesPart may (MayTakeContent closed.joined) IsTaken (Ok taken) w1 w2 d1 d2 b1 b2) where
+    pub switching_halts : (w3 : WorldValue) (d3 : Disturbance) (b3 : BusValue) {h : Halt} (r : Result SweepResult Halt) → IsErrAnd r (λ x. x ≡ h) →
+        PassesPart may (IsWithinCycle Final 8 8) IsSwitched (Err h) w2 w3 d2 d3 b2 b3 → PassesPart may (MayRestore targets) IsRestored r w w3 d d3 b b3
     switching_halts w3 d3 b3 r is third = then first (then (filled closed w1 w2 d1 d2 b1 b2 second) (halted_by r is (restored closed w2 w3 d2 d3 b2 b3 taken third)))
 
-    pub all_restored : (w3 : WorldValue) (d3 : Disturbance) (b3 : BusValue) (sent : List (Option ChannelSet)) → Goes may (Inside Final 8 8) IsSwitched (Ok sent) w2 w3 d2 d3 b2 b3 →
-        Goes may (MayRestore targets) IsRestored (Ok (restored_of closed taken sent)) w w3 d d3 b b3
+    pub all_restored : (w3 : WorldValue) (d3 : Disturbance) (b3 : BusValue) (sent : List (Option ChannelSet)) → PassesPart may (IsWithinCycle Final 8 8) IsSwitched (Ok sent) w2 w3 d2 d3 b2 b3 →
+        PassesPart may (MayRestore targets) IsRestored (Ok (restored_of closed taken sent)) w w3 d d3 b b3
     all_restored w3 d3 b3 sent third =
         then_step IsRestored (restored_of closed taken sent) w3 (nothing_kept w3) (λ L now steps held. held)
         (then first (then (filled closed w1 w2 d1 d2 b1 b2 second) (restored closed w2 w3 d2 d3 b2 b3 taken third)))

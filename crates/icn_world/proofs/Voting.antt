@@ -12,39 +12,39 @@ use Rattle.guards_world.specs.InCycle.{InCycle}
 use Rattle.guards_world.specs.WorldCycle.{BusValue}
 use Rattle.fault_script.specs.declared.disturbance.Disturbance.{Disturbance}
 use Rattle.slot_traffic.specs.Pieces.{ArrivedValue}
-use Rattle.world_steps.specs.Arrivals.{AreArrivals, HaveWorked}
+use Rattle.guards_world.specs.Arrivals.{AreArrivals, HaveWorked}
 use Rattle.world_traffic.specs.Reading.{got_of}
-use Rattle.cycle_laws.specs.Fronts.{IsRunFront}
-use Rattle.arrival_laws.proofs.Contexts.{all_worked}
+use Rattle.world_laws.specs.Fronts.{IsRunFront}
+use Rattle.node_laws.proofs.UpContexts.{all_worked}
 use Rattle.icn_world.specs.declared.world.Halt.{Halt}
 use Rattle.icn_world.specs.declared.world.Halt.TheVariants.{NoMemory}
-use Rattle.icn_world.specs.Kept.{IsKept}
+use Rattle.icn_world.specs.Kept.{IsWorldKept}
 use Rattle.icn_world.specs.Settled.{MayEnter}
-use Rattle.icn_world.specs.Stages.{Inside, HasArrived, Goes, Reaches}
+use Rattle.icn_world.specs.Stages.{IsWithinCycle, HasArrived, PassesPart, Reaches}
 use Rattle.icn_world.specs.Told.{AreLinesOf}
 use Rattle.icn_world.specs.Voted.{HasVoted}
 use Rattle.icn_world.proofs.Chaining.{then, halted, from, without_carry}
 use Rattle.icn_world.proofs.Entered.{still_inside, of_kept}
 use Rattle.icn_world.proofs.Fronts.{is_front}
 
-pub may_vote : (L now : Log) (steps : Steps) (w : WorldValue) (d : Disturbance) → Inside Tasks 5 5 L now steps w d → MayEnter Vote L now steps w d
+pub may_vote : (L now : Log) (steps : Steps) (w : WorldValue) (d : Disturbance) → IsWithinCycle Tasks 5 5 L now steps w d → MayEnter Vote L now steps w d
 may_vote L now steps w d within = record { before = Tasks; soon = refl; stands = within }
 
 module _ {may : List RuleValue → EntryValue → Type 0} (w w1 : WorldValue) (d d1 : Disturbance) (b b1 : BusValue) where
-  pub slot_halts : {h : Halt} → Goes may (MayEnter Vote) (HasArrived Vote) (Err h) w w1 d d1 b b1 → Goes may (Inside Tasks 5 5) HasVoted (Err h) w w1 d d1 b b1
-  slot_halts goes = halted (from (Inside Tasks 5 5) (λ L now steps within. may_vote L now steps w d within) goes)
+  pub slot_halts : {h : Halt} → PassesPart may (MayEnter Vote) (HasArrived Vote) (Err h) w w1 d d1 b b1 → PassesPart may (IsWithinCycle Tasks 5 5) HasVoted (Err h) w w1 d d1 b b1
+  slot_halts goes = halted (from (IsWithinCycle Tasks 5 5) (λ L now steps within. may_vote L now steps w d within) goes)
 
-  module _ {arrived : ArrivedValue} (goes : Goes may (MayEnter Vote) (HasArrived Vote) (Ok arrived) w w1 d d1 b b1) where
-    passed : Goes may (Inside Tasks 5 5) (HasArrived Vote) (Ok arrived) w w1 d d1 b b1
-    passed = from (Inside Tasks 5 5) (λ L now steps within. may_vote L now steps w d within) goes
+  module _ {arrived : ArrivedValue} (goes : PassesPart may (MayEnter Vote) (HasArrived Vote) (Ok arrived) w w1 d d1 b b1) where
+    passed : PassesPart may (IsWithinCycle Tasks 5 5) (HasArrived Vote) (Ok arrived) w w1 d d1 b b1
+    passed = from (IsWithinCycle Tasks 5 5) (λ L now steps within. may_vote L now steps w d within) goes
 
-    pub may_take : (L : Log) × (now : Log) × (steps : Steps) × Inside Tasks 5 5 L now steps w d →
+    pub may_take : (L : Log) × (now : Log) × (steps : Steps) × IsWithinCycle Tasks 5 5 L now steps w d →
         (L : Log) × (now : Log) × (steps : Steps) × InCycle w1.mission L now steps Vote 6 5 w1
     may_take held =
         (held.0, held.1 ++ goes.entries, held.2, (goes.ends held.0 held.1 held.2 (may_vote held.0 held.1 held.2 w d held.3)).stands.inside)
 
-    module _ (w2 : WorldValue) (kept : IsKept w1 w2) where
-      pub take_fails : {h : Halt} → h ≡ NoMemory → Goes may (Inside Tasks 5 5) HasVoted (Err h) w w2 d d1 b b1
+    module _ (w2 : WorldValue) (kept : IsWorldKept w1 w2) where
+      pub take_fails : {h : Halt} → h ≡ NoMemory → PassesPart may (IsWithinCycle Tasks 5 5) HasVoted (Err h) w w2 d d1 b b1
       take_fails {h = h} none =
           then passed
           (without_carry may (HasArrived Vote arrived) HasVoted (Err h) w1 w2 d1 d1 b1 kept.mission kept.done kept.carried
@@ -56,7 +56,7 @@ module _ {may : List RuleValue → EntryValue → Type 0} (w w1 : WorldValue) (d
           HaveWorked w1.mission (L ++ now) w1.done → InCycle w1.mission L now steps Vote 6 6 w2) →
           ((L now : Log) (steps : Steps) → InCycle w1.mission L now steps Vote 6 5 w1 → AreArrivals w1.mission (L ++ now) w1.done Vote (got_of arrived) →
           HaveWorked w1.mission (L ++ now) w1.done → AreLinesOf w1.mission (cycle_at w1.mission (L ++ now) w1.done) Vote lines.items) →
-          Goes may (Inside Tasks 5 5) HasVoted (Ok lines) w w2 d d1 b b1
+          PassesPart may (IsWithinCycle Tasks 5 5) HasVoted (Ok lines) w w2 d d1 b b1
       votes_taken {lines = lines} taken told =
           then passed
           (without_carry may (HasArrived Vote arrived) HasVoted (Ok lines) w1 w2 d1 d1 b1 kept.mission kept.done kept.carried

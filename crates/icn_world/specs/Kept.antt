@@ -2,7 +2,7 @@
 use Rattle.std.specs.Prelude.{◌≡◌}
 use Rattle.guards_world.specs.Worlds.{WorldValue}
 
-pub record IsKept (old new : WorldValue) : Type 0 where
+pub record IsWorldKept (old new : WorldValue) : Type 0 where
   pub mission : new.mission ≡ old.mission
   pub done : new.done ≡ old.done
   pub carried : new.carried ≡ old.carried

@@ -5,7 +5,7 @@ use Rattle.guards_model.specs.Network.{EntryValue, Log}
 use Rattle.guards_model.specs.Texts.{RecordValue}
 use Rattle.guards_world.specs.Worlds.{WorldValue, HaltValue, no_memory, StandsForWorld}
 use Rattle.guards_world.specs.WorldCycle.{BusValue, Carries, Ends}
-use Rattle.cycle_laws.specs.Fronts.{IsUpToStop}
+use Rattle.world_laws.specs.Fronts.{IsUpToStop}
 
 -- a world that may pass a cycle, by a log that stands for it
 pub record MayPass (w : WorldValue) (L : Log) : Type 0 where

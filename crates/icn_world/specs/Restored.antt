@@ -11,14 +11,14 @@ use Rattle.guards_runs.specs.Cycles.{mode_in, is_whole, received_body, cycle_at}
 use Rattle.guards_runs.specs.ControlFacts.{closed_of}
 use Rattle.guards_runs.specs.Due.{targets_of}
 use Rattle.guards_runs.specs.Report.{remaining_in}
-use Rattle.guards_world.specs.Worlds.{WorldValue}
+use Rattle.guards_world.specs.Worlds.{WorldValue, past_in, facts_in}
 use Rattle.guards_world.specs.InCycle.{node_in}
-use Rattle.node_rounds.specs.Closing.{closed_value}
+use Rattle.channel_node.specs.Closing.{closed_value}
 use Rattle.control_state.specs.declared.control.Closed.{Closed}
 use Rattle.fault_script.specs.declared.disturbance.Disturbance.{Disturbance}
-use Rattle.world_nodes.specs.NodeLists.{TookContent}
-use Rattle.icn_world.specs.Stages.{past_in, facts_in, Inside}
-use Rattle.icn_world.specs.declared.restoring.Restored.{Restored}
+use Rattle.guards_world.specs.NodeLists.{TookContent}
+use Rattle.icn_world.specs.Stages.{IsWithinCycle}
+use Rattle.icn_world.specs.declared.restoring.SweepResult.{SweepResult}
 
 -- the sets of the switch frames that count at the switchboard in cycle n, by their senders
 abbrev pub sets_at : MissionValue → Log → ℕ → List (Option ChannelSet)
@@ -30,32 +30,32 @@ HaveTaken taken M L n steps = (q : Channel) → q < 7 → TookContent taken (nod
 
 -- the vote is over, and the running transfer has these targets
 pub record MayRestore (targets : ChannelSet) (L now : Log) (steps : Steps) (w : WorldValue) (d : Disturbance) : Type 0 where
-  pub stands : Inside Vote 6 6 L now steps w d
+  pub stands : IsWithinCycle Vote 6 6 L now steps w d
   pub targets_are : targets ≡ targets_of (facts_in w (L ++ now)).transfer
 
 -- the sweep slot is over, and the cycle is closed
-pub record IsClosed (closed : Closed) (L now : Log) (steps : Steps) (w : WorldValue) (d : Disturbance) : Type 0 where
-  pub stands : Inside Sweep 7 7 L now steps w d
+pub record HasClosed (closed : Closed) (L now : Log) (steps : Steps) (w : WorldValue) (d : Disturbance) : Type 0 where
+  pub stands : IsWithinCycle Sweep 7 7 L now steps w d
   pub closed_is : closed_value closed ≡ closed_of (facts_in w (L ++ now))
 
 -- the sweep slot is over, and these are declared joined
-pub record MayTake (joined : ChannelSet) (L now : Log) (steps : Steps) (w : WorldValue) (d : Disturbance) : Type 0 where
-  pub stands : Inside Sweep 7 7 L now steps w d
+pub record MayTakeContent (joined : ChannelSet) (L now : Log) (steps : Steps) (w : WorldValue) (d : Disturbance) : Type 0 where
+  pub stands : IsWithinCycle Sweep 7 7 L now steps w d
   pub joined_are : joined ≡ (facts_in w (L ++ now)).joined
 
 -- the final slot is over, and these took a content
 pub record IsTaken (taken : ChannelSet) (L now : Log) (steps : Steps) (w : WorldValue) (d : Disturbance) : Type 0 where
-  pub stands : Inside Final 8 8 L now steps w d
+  pub stands : IsWithinCycle Final 8 8 L now steps w d
   pub taken_are : HaveTaken taken w.mission (L ++ now) w.done steps
 
 -- the switch slot is over, and these sets were sent to the switchboard
 pub record IsSwitched (sent : List (Option ChannelSet)) (L now : Log) (steps : Steps) (w : WorldValue) (d : Disturbance) : Type 0 where
-  pub stands : Inside Switch 9 9 L now steps w d
+  pub stands : IsWithinCycle Switch 9 9 L now steps w d
   pub sent_are : sent ≡ sets_at w.mission (L ++ now) w.done
 
 -- the three slots are over
-pub record IsRestored (r : Restored) (L now : Log) (steps : Steps) (w : WorldValue) (d : Disturbance) : Type 0 where
-  pub stands : Inside Switch 9 9 L now steps w d
+pub record IsRestored (r : SweepResult) (L now : Log) (steps : Steps) (w : WorldValue) (d : Disturbance) : Type 0 where
+  pub stands : IsWithinCycle Switch 9 9 L now steps w d
   pub joined_are : r.joined ≡ (facts_in w (L ++ now)).joined
   pub remaining_are : r.remaining ≡ remaining_in (facts_in w (L ++ now))
   pub taken_are : (q : Channel) → q < 7 → is_joining (mode_in (facts_in w (L ++ now)) q Switch) ≡ true →

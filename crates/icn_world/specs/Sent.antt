@@ -4,17 +4,16 @@ use Rattle.std.specs.List.{AllZip}
 use Rattle.guards_model.specs.declared.Slot.{Slot}
 use Rattle.guards_model.specs.Slots.{slot_index}
 use Rattle.guards_model.specs.BusRules.{RuleValue}
-use Rattle.guards_model.specs.Network.{EntryValue, Log}
+use Rattle.guards_model.specs.Network.{EntryValue, Log, TrafficValue}
 use Rattle.guards_model.specs.Rounds.{Steps}
 use Rattle.guards_world.specs.NodeFacts.{received_through}
-use Rattle.guards_world.specs.Worlds.{WorldValue}
+use Rattle.guards_world.specs.Worlds.{WorldValue, past_in, facts_in}
 use Rattle.guards_world.specs.WorldCycle.{BusValue, Carries}
-use Rattle.world_laws.specs.Passing.{world_carried}
-use Rattle.slot_traffic.specs.Pieces.{TrafficValue}
-use Rattle.world_nodes.specs.NodeLists.{AllReceived}
-use Rattle.world_traffic.specs.SlotSends.{IsEntryOf, all_sends}
+use Rattle.guards_world.specs.Passing.{world_carried}
+use Rattle.guards_world.specs.NodeLists.{AllReceived}
+use Rattle.guards_world.specs.SlotSends.{IsEntryOf, all_sends}
 use Rattle.fault_script.specs.declared.disturbance.Disturbance.{Disturbance}
-use Rattle.icn_world.specs.Stages.{past_in, facts_in, MayCarry}
+use Rattle.icn_world.specs.Stages.{MayCarry}
 
 -- what each node received in the slots before
 abbrev pub received_in : Log → Slot → WorldValue → AllReceived
@@ -24,14 +23,14 @@ received_in all slot w q = received_through w.mission (past_in w all) (facts_in 
 abbrev pub AreAllSent : Log → Log → Slot → List ℕ → WorldValue → Log → Type 0
 AreAllSent L now slot to w new = AllZip IsEntryOf (all_sends w.mission w.done slot to (received_in (L ++ now) slot w) w.nodes) new
 
-abbrev pub AreFewSent : Log → Log → Slot → List ℕ → ℕ → WorldValue → Log → Type 0
-AreFewSent L now slot to few w new = AllZip IsEntryOf (take few (all_sends w.mission w.done slot to (received_in (L ++ now) slot w) w.nodes)) new
+abbrev pub AreFewSentBy : Log → Log → Slot → List ℕ → ℕ → WorldValue → Log → Type 0
+AreFewSentBy L now slot to few w new = AllZip IsEntryOf (take few (all_sends w.mission w.done slot to (received_in (L ++ now) slot w) w.nodes)) new
 
 -- by the answer, the entries are those of all frames, and those of the traffic, or those of the first few
 abbrev pub AreSentBy : {E : Type 0} → Slot → List ℕ → Log → Result TrafficValue E → WorldValue → Log → Log → Type 0
 AreSentBy slot to entries (Ok traffic) w L now =
     (traffic ≡ record { cycle = w.done; slot = slot; entries = entries }) × AreAllSent L now slot to w entries
-AreSentBy slot to entries (Err error) w L now = (few : ℕ) × AreFewSent L now slot to few w entries
+AreSentBy slot to entries (Err error) w L now = (few : ℕ) × AreFewSentBy L now slot to few w entries
 
 -- These entries were carried and counted.
 pub record HasSent {E : Type 0} (may : List RuleValue → EntryValue → Type 0) (slot : Slot) (to : List ℕ) (result : Result TrafficValue E)

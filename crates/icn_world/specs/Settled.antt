@@ -11,17 +11,17 @@ use Rattle.guards_runs.specs.Cycles.{Cycle, cycles_before, cycle_at}
 use Rattle.guards_runs.specs.Due.{is_round, receivers}
 use Rattle.guards_nodes.specs.NodeStates.{NodeValue}
 use Rattle.guards_world.specs.NodeFacts.{received_through}
-use Rattle.guards_world.specs.Worlds.{WorldValue}
+use Rattle.guards_world.specs.Worlds.{WorldValue, facts_in}
 use Rattle.fault_script.specs.declared.disturbance.Disturbance.{Disturbance}
-use Rattle.world_nodes.specs.NodeLists.{Bodies, with_exchanges}
+use Rattle.guards_world.specs.NodeLists.{Bodies, with_exchanges}
 use Rattle.icn_world.specs.declared.rounds.Reconfiguration.{Reconfiguration}
-use Rattle.icn_world.specs.Stages.{facts_in, Inside}
+use Rattle.icn_world.specs.Stages.{IsWithinCycle}
 
 -- the slots before are done, and this one may be entered
 pub record MayEnter (slot : Slot) (L now : Log) (steps : Steps) (w : WorldValue) (d : Disturbance) : Type 0 where
   pub before : Slot
   pub soon : up_to before slot ≡ true
-  pub stands : Inside before (slot_index slot) (slot_index slot) L now steps w d
+  pub stands : IsWithinCycle before (slot_index slot) (slot_index slot) L now steps w d
 
 -- its frames go to the active channels
 abbrev pub IsToActive : Slot → Type 0
@@ -40,11 +40,11 @@ pub record AreOfCycle (settled : Reconfiguration) (M : MissionValue) (L : Log) (
 
 -- the rounds are over, and the running channels have decided
 pub record IsDecided (settled : Reconfiguration) (L now : Log) (steps : Steps) (w : WorldValue) (d : Disturbance) : Type 0 where
-  pub stands : Inside Round3 4 4 L now steps w d
+  pub stands : IsWithinCycle Round3 4 4 L now steps w d
   pub settled_are : AreOfCycle settled w.mission (L ++ now) w.done
 
 -- and the tasks slot is entered, whose work is next
 pub record IsSettled (settled : Reconfiguration) (L now : Log) (steps : Steps) (w : WorldValue) (d : Disturbance) : Type 0 where
-  pub stands : Inside Tasks 5 4 L now steps w d
+  pub stands : IsWithinCycle Tasks 5 4 L now steps w d
   pub removed : settled.removed ≡ (facts_in w (L ++ now)).removed
   pub transfer : transfer_of_pair settled.transfer ≡ (facts_in w (L ++ now)).transfer

@@ -10,32 +10,24 @@ use Rattle.guards_model.specs.BusRules.{RuleValue}
 use Rattle.guards_model.specs.Network.{EntryValue, Log}
 use Rattle.guards_model.specs.Rounds.{Steps}
 use Rattle.guards_model.specs.Texts.{StopValue}
-use Rattle.guards_runs.specs.Cycles.{Cycle, Past, cycles_before, cycle_at}
 use Rattle.guards_runs.specs.Disturbed.{is_charge, stop_in}
 use Rattle.guards_runs.specs.Due.{receivers}
-use Rattle.guards_world.specs.Worlds.{WorldValue, HaltValue, disturbed, no_memory, StandsForWorld}
+use Rattle.guards_world.specs.Worlds.{WorldValue, HaltValue, disturbed, no_memory, StandsForWorld, past_in, facts_in}
 use Rattle.guards_world.specs.InCycle.{InCycle}
 use Rattle.guards_world.specs.WorldCycle.{BusValue, Carries, AreFull}
-use Rattle.world_laws.specs.Passing.{StopsIn}
-use Rattle.cycle_laws.specs.Fronts.{IsRunFront}
+use Rattle.guards_world.specs.Passing.{IsStopIn}
+use Rattle.world_laws.specs.Fronts.{IsRunFront}
 use Rattle.slot_traffic.specs.Pieces.{ArrivedValue}
 use Rattle.icn_world.specs.declared.world.Halt.{Halt}
 use Rattle.icn_world.specs.Halts.{halt_value}
-use Rattle.world_steps.specs.Arrivals.{AreArrivals}
+use Rattle.guards_world.specs.Arrivals.{AreArrivals}
 use Rattle.world_traffic.specs.Reading.{got_of}
 use Rattle.fault_script.specs.declared.disturbance.Disturbance.{Disturbance}
-
--- the facts of the world's cycle, from a log that has this cycle's entries at its end
-abbrev pub past_in : WorldValue → Log → Past
-past_in w L = cycles_before w.mission L w.done
-
-abbrev pub facts_in : WorldValue → Log → Cycle
-facts_in w L = cycle_at w.mission L w.done
 
 -- The world within a cycle, as `InCycle` says. Where its tasks slot is handed over, the steps of all who worked are full. The
 -- disturbance has the active channels, and charges just those of whom a piece was not delivered as sent. L has the entries of
 -- the earlier cycles, and `now` those of this one.
-pub record Inside (slot : Slot) (carried handed : ℕ) (L now : Log) (steps : Steps) (w : WorldValue) (d : Disturbance) : Type 0 where
+pub record IsWithinCycle (slot : Slot) (carried handed : ℕ) (L now : Log) (steps : Steps) (w : WorldValue) (d : Disturbance) : Type 0 where
   pub inside : InCycle w.mission L now steps slot carried handed w
   pub full : slot_index Tasks < handed → AreFull w.mission (past_in w (L ++ now)) (facts_in w (L ++ now)) steps
   pub active : d.active ≡ (facts_in w (L ++ now)).active
@@ -43,7 +35,7 @@ pub record Inside (slot : Slot) (carried handed : ℕ) (L now : Log) (steps : St
 
 -- the run stops in a slot of the cycle, with this stop
 pub record HaltsIn (L now : Log) (steps : Steps) (stop : StopValue) (w : WorldValue) : Type 0 where
-  pub stops : StopsIn w.mission L now w.done steps stop.slot
+  pub stops : IsStopIn w.mission L now w.done steps stop.slot
   pub stop_is : stop_in w.done (facts_in w (L ++ now)) ≡ Some stop
   pub full : slot_index Tasks < slot_index stop.slot → AreFull w.mission (past_in w (L ++ now)) (facts_in w (L ++ now)) steps
 
@@ -52,17 +44,17 @@ abbrev pub Condition : Type 1
 Condition = Log → Log → Steps → WorldValue → Disturbance → Type 0
 
 -- a halt of this cycle: the run stops, or what was carried is a front of the run's due entries, which end with the stop
-abbrev pub EndsBy : HaltValue → Log → Log → Steps → WorldValue → Type 0
-EndsBy (disturbed stop) L now steps w = HaltsIn L now steps stop w
-EndsBy no_memory L now steps w = IsRunFront w.mission L now w.done
+abbrev pub EndsCycle : HaltValue → Log → Log → Steps → WorldValue → Type 0
+EndsCycle (disturbed stop) L now steps w = HaltsIn L now steps stop w
+EndsCycle no_memory L now steps w = IsRunFront w.mission L now w.done
 
 abbrev pub Reaches : {A : Type 0} → (A → Condition) → Result A Halt → Condition
 Reaches Q (Ok x) L now steps w d = Q x L now steps w d
-Reaches Q (Err halt) L now steps w d = EndsBy (halt_value halt) L now steps w
+Reaches Q (Err halt) L now steps w d = EndsCycle (halt_value halt) L now steps w
 
 -- The part carried these entries. Whatever log, steps and entries so far the condition P held for, with the new entries Q
 -- holds, the run stops, or what was carried is a front of the run's due entries.
-pub record Goes {A : Type 0} (may : List RuleValue → EntryValue → Type 0) (P : Condition) (Q : A → Condition)
+pub record PassesPart {A : Type 0} (may : List RuleValue → EntryValue → Type 0) (P : Condition) (Q : A → Condition)
     (result : Result A Halt) (old new : WorldValue) (before after : Disturbance) (bus bus_after : BusValue) : Type 0 where
   pub entries : Log
   pub carries : Carries may bus bus_after entries
@@ -86,10 +78,10 @@ pub record IsAtStart (L now : Log) (steps : Steps) (w : WorldValue) (d : Disturb
 -- the world is in a slot that may be carried to these receivers
 pub record MayCarry (slot : Slot) (to : List ℕ) (L now : Log) (steps : Steps) (w : WorldValue) (d : Disturbance) : Type 0 where
   pub on : on_bus slot ≡ true
-  pub stands : Inside slot (slot_index slot) (slot_index slot) L now steps w d
+  pub stands : IsWithinCycle slot (slot_index slot) (slot_index slot) L now steps w d
   pub receivers_are : receivers (facts_in w (L ++ now)) slot ≡ to
 
 -- the slot was carried, and this arrived
 pub record HasArrived (slot : Slot) (arrived : ArrivedValue) (L now : Log) (steps : Steps) (w : WorldValue) (d : Disturbance) : Type 0 where
-  pub stands : Inside slot (suc (slot_index slot)) (slot_index slot) L now steps w d
+  pub stands : IsWithinCycle slot (suc (slot_index slot)) (slot_index slot) L now steps w d
   pub arrivals : AreArrivals w.mission (L ++ now) w.done slot (got_of arrived)

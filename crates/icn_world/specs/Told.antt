@@ -8,8 +8,8 @@ use Rattle.guards_model.specs.Ledgers.{LedgerValue, mode_of}
 use Rattle.guards_model.specs.Texts.{LineValue}
 use Rattle.guards_model.specs.Records.{shown_line}
 use Rattle.guards_runs.specs.Cycles.{Cycle}
-use Rattle.guards_runs.specs.Report.{line_of, running_in}
-use Rattle.guards_world.specs.WorldCycle.{IsPadded}
+use Rattle.guards_runs.specs.Report.{line_of, channels_running_in}
+use Rattle.guards_world.specs.WorldCycle.{IsLinePadded}
 
 -- what of a line a report of the mission shows
 abbrev pub shown_of : MissionValue → LineValue → LineValue
@@ -17,7 +17,7 @@ shown_of M line = shown_line M.rules.channels M.width (length M.outputs) line
 
 -- these are the lines of the channels that run in the slot, in order, and the places that no report shows are empty
 abbrev pub AreLinesOf : MissionValue → Cycle → Slot → List LineValue → Type 0
-AreLinesOf M e slot lines = (map (shown_of M) lines ≡ map (line_of M e) (running_in slot e)) × AllByRecursion (IsPadded M) lines
+AreLinesOf M e slot lines = (map (shown_of M) lines ≡ map (line_of M e) (channels_running_in slot e)) × AllByRecursion (IsLinePadded M) lines
 
 -- the lines of the channels that are up
 abbrev pub of_channels_up : LedgerValue → List LineValue → List LineValue

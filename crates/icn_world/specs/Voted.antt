@@ -3,14 +3,14 @@ use Rattle.std.specs.Prelude.{◌++◌}
 use Rattle.guards_model.specs.declared.Slot.TheVariants.{Vote}
 use Rattle.guards_model.specs.Network.{Log}
 use Rattle.guards_model.specs.Rounds.{Steps}
-use Rattle.guards_world.specs.Worlds.{WorldValue}
+use Rattle.guards_world.specs.Worlds.{WorldValue, facts_in}
 use Rattle.fault_script.specs.declared.disturbance.Disturbance.{Disturbance}
 use Rattle.guards_base.specs.Seen.{Seen}
 use Rattle.guards_model.specs.Texts.{LineValue}
-use Rattle.icn_world.specs.Stages.{facts_in, Inside}
+use Rattle.icn_world.specs.Stages.{IsWithinCycle}
 use Rattle.icn_world.specs.Told.{AreLinesOf}
 
 -- the vote slot is handed over, and these are the lines of the channels that run in it
 pub record HasVoted (lines : Seen LineValue) (L now : Log) (steps : Steps) (w : WorldValue) (d : Disturbance) : Type 0 where
-  pub stands : Inside Vote 6 6 L now steps w d
+  pub stands : IsWithinCycle Vote 6 6 L now steps w d
   pub lines_are : AreLinesOf w.mission (facts_in w (L ++ now)) Vote lines.items

@@ -6,7 +6,7 @@ ghost use Rattle.guards_model.specs.Network.{Log};
 ghost use Rattle.guards_model.specs.Rounds.{Steps};
 ghost use Rattle.slot_traffic.specs.Receiving.{receiver_numbers};
 ghost use Rattle.fault_script.specs.declared.disturbance.Disturbance.{Disturbance as DisturbanceValue};
-ghost use Rattle.icn_world.specs.Stages.{Goes, HasArrived, MayCarry};
+ghost use Rattle.icn_world.specs.Stages.{PassesPart, HasArrived, MayCarry};
 ghost use Rattle.icn_world.specs.Sent.{HasSent};
 
 use crate::world::{Halt, World};
@@ -40,7 +40,7 @@ impl World {
     fn format(&self) -> Format
         ensures { result ≡ format_of self.now.mission }
     {
-        self.mission.know_sizes();
+        self.mission.prove_sizes();
         let rules = self.mission.rules();
         Format {
             version: rules.version,
@@ -81,7 +81,7 @@ impl World {
         disturbance: &mut Disturbance,
     ) -> Result<Delivered, Halt>
         requires { (L : Log) × (now : Log) × (steps : Steps) × MayCarry slot (receiver_numbers to) L now steps self.old disturbance.old }
-        ensures { Goes B.may (MayCarry slot (receiver_numbers to)) (HasArrived slot) result self.old self.new disturbance.old disturbance.new
+        ensures { PassesPart B.may (MayCarry slot (receiver_numbers to)) (HasArrived slot) result self.old self.new disturbance.old disturbance.new
             (record { log = B.log bus.old; script = B.script bus.old }) (record { log = B.log bus.new; script = B.script bus.new }) }
     {
         let traffic = match self.send(alloc, bus, slot, to) {

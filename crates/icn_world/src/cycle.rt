@@ -3,8 +3,8 @@ ghost use Rattle.std.specs.Prelude.{◌≡◌};
 ghost use Rattle.guards_model.specs.Network.{Log};
 ghost use Rattle.guards_model.specs.Records.{transfer_of_pair};
 ghost use Rattle.guards_runs.specs.Due.{targets_of};
-ghost use Rattle.guards_world.specs.WorldCycle.{MayCycle, CycleOf};
-ghost use Rattle.cycle_laws.specs.Fronts.{CarriesUpToStop};
+ghost use Rattle.guards_world.specs.WorldCycle.{MayCycle, PassesCycle};
+ghost use Rattle.world_laws.specs.Fronts.{CarriesUpToStop};
 ghost use Rattle.icn_world.specs.Halts.{halt_value, with_halt_value};
 ghost use Rattle.icn_world.specs.Passes.{MayPass, Passes};
 
@@ -73,7 +73,7 @@ impl World {
         natives: &C,
     ) -> Result<CycleRecord, Halt>
         requires { MayCycle self.old (record { log = B.log bus.old; script = B.script bus.old }) }
-        ensures passes { CycleOf B.may self.old.spent self.old (record { log = B.log bus.old; script = B.script bus.old })
+        ensures passes { PassesCycle B.may self.old.spent self.old (record { log = B.log bus.old; script = B.script bus.old })
             (with_halt_value result) self.new (record { log = B.log bus.new; script = B.script bus.new }) }
         ensures up_to_stop { CarriesUpToStop self.old (record { log = B.log bus.old; script = B.script bus.old })
             (with_halt_value result) (record { log = B.log bus.new; script = B.script bus.new }) }

@@ -2,10 +2,10 @@
 ghost use Rattle.std.specs.Prelude.{◌≡◌};
 ghost use Rattle.guards_model.specs.Network.{Log};
 ghost use Rattle.guards_model.specs.Rounds.{Steps};
-ghost use Rattle.world_laws.specs.Passing.{world_after};
+ghost use Rattle.guards_world.specs.Passing.{world_after};
 ghost use Rattle.icn_world.specs.Restored.{IsRestored};
 
-use crate::restoring::Restored;
+use crate::restoring::SweepResult;
 use crate::world::World;
 use fault_script::Disturbance;
 use guards_base::Settled;
@@ -13,7 +13,7 @@ use guards_base::Settled;
 impl World {
     // Ends the cycle: the switchboard closes, the removed channels rest, those that took a content run, and the ledger and
     // the count of cycles go on.
-    pub(crate) fn end(&mut self, restored: &Restored, disturbance: &Disturbance)
+    pub(crate) fn end(&mut self, restored: &SweepResult, disturbance: &Disturbance)
         requires { (L : Log) × (now : Log) × (steps : Steps) × IsRestored restored.now L now steps self.old disturbance.now }
         ensures { (L now : Log) (steps : Steps) → IsRestored restored.now L now steps self.old disturbance.now →
             self.new ≡ world_after self.old.mission L now steps self.old.done self.old.carried }

@@ -5,7 +5,7 @@ ghost use Rattle.guards_model.specs.Ledgers.{mode_of};
 ghost use Rattle.guards_model.specs.Records.{transfer_of_pair};
 ghost use Rattle.icn_world.specs.Told.{of_channels_up};
 
-use crate::restoring::Restored;
+use crate::restoring::SweepResult;
 use crate::rounds::Reconfiguration;
 use crate::world::World;
 use fault_script::Ledger;
@@ -39,7 +39,7 @@ impl World {
         reconfiguration: &Reconfiguration,
         lines: Lines,
         traces: Traces,
-        restored: &Restored,
+        restored: &SweepResult,
     ) -> CycleRecord
         ensures { result ≡ record {
           cycle = self.now.done;

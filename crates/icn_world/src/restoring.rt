@@ -8,9 +8,9 @@ ghost use Rattle.guards_model.specs.Switchboard.{set_of};
 ghost use Rattle.guards_runs.specs.Cycles.{cycle_at};
 ghost use Rattle.guards_runs.specs.ControlFacts.{closed_of};
 ghost use Rattle.guards_world.specs.InCycle.{InCycle};
-ghost use Rattle.node_rounds.specs.Closing.{closed_value};
-ghost use Rattle.world_steps.specs.Arrivals.{AreArrivals};
-ghost use Rattle.icn_world.specs.Kept.{IsKept};
+ghost use Rattle.channel_node.specs.Closing.{closed_value};
+ghost use Rattle.guards_world.specs.Arrivals.{AreArrivals};
+ghost use Rattle.icn_world.specs.Kept.{IsWorldKept};
 
 use crate::world::{Halt, World};
 use control_state::Closed;
@@ -26,7 +26,7 @@ use world_nodes::Arrived;
 // What the slots leave: who is declared joined, how many blocks remain, who took a content, and the set that each channel
 // sent to the switchboard.
 #[derive(Clone, Copy)]
-pub(crate) struct Restored {
+pub(crate) struct SweepResult {
     pub(crate) joined: ChanSet,
     pub(crate) remaining: Option<u16>,
     pub(crate) taken: ChanSet,
@@ -65,7 +65,7 @@ impl World {
     // the first of these answers.
     fn close<A: Arrived>(&mut self, alloc: Global, arrived: &A) -> Result<Closed, AllocError>
         requires { (L : Log) × (now : Log) × (steps : Steps) × InCycle self.old.mission L now steps Sweep 7 6 self.old }
-        ensures kept { IsKept self.old self.new }
+        ensures kept { IsWorldKept self.old self.new }
         ensures state { (L now : Log) (steps : Steps) → InCycle self.old.mission L now steps Sweep 7 6 self.old →
             AreArrivals self.old.mission (L ++ now) self.old.done Sweep (A.got arrived.now) →
             OnOk result (InCycle self.old.mission L now steps Sweep 7 7 self.new) }
@@ -80,8 +80,8 @@ impl World {
 }
 
 impl World {
-    ghost use Rattle.icn_world.specs.Stages.{Goes, Inside};
-    ghost use Rattle.icn_world.specs.Restored.{MayRestore, IsClosed, MayTake, IsTaken, IsSwitched, IsRestored};
+    ghost use Rattle.icn_world.specs.Stages.{PassesPart, IsWithinCycle};
+    ghost use Rattle.icn_world.specs.Restored.{MayRestore, HasClosed, MayTakeContent, IsTaken, IsSwitched, IsRestored};
 
     // The sweep slot: the running channels send their copies to the targets, and close the cycle.
     fn pass_sweep<B: Bus>(
@@ -92,7 +92,7 @@ impl World {
         targets: ChanSet,
     ) -> Result<Closed, Halt>
         requires { (L : Log) × (now : Log) × (steps : Steps) × MayRestore targets L now steps self.old disturbance.old }
-        ensures { Goes B.may (MayRestore targets) IsClosed result self.old self.new disturbance.old disturbance.new
+        ensures { PassesPart B.may (MayRestore targets) HasClosed result self.old self.new disturbance.old disturbance.new
             (record { log = B.log bus.old; script = B.script bus.old }) (record { log = B.log bus.new; script = B.script bus.new }) }
     {
         self.enter(Slot::Sweep);
@@ -110,8 +110,8 @@ impl World {
         disturbance: &mut Disturbance,
         joined: ChanSet,
     ) -> Result<ChanSet, Halt>
-        requires { (L : Log) × (now : Log) × (steps : Steps) × MayTake joined L now steps self.old disturbance.old }
-        ensures { Goes B.may (MayTake joined) IsTaken result self.old self.new disturbance.old disturbance.new
+        requires { (L : Log) × (now : Log) × (steps : Steps) × MayTakeContent joined L now steps self.old disturbance.old }
+        ensures { PassesPart B.may (MayTakeContent joined) IsTaken result self.old self.new disturbance.old disturbance.new
             (record { log = B.log bus.old; script = B.script bus.old }) (record { log = B.log bus.new; script = B.script bus.new }) }
     {
         self.enter(Slot::Final);
@@ -129,8 +129,8 @@ impl World {
         bus: &mut B,
         disturbance: &mut Disturbance,
     ) -> Result<[Option<ChanSet>; 7], Halt>
-        requires { (L : Log) × (now : Log) × (steps : Steps) × Inside Final 8 8 L now steps self.old disturbance.old }
-        ensures { Goes B.may (Inside Final 8 8) IsSwitched result self.old self.new disturbance.old disturbance.new
+        requires { (L : Log) × (now : Log) × (steps : Steps) × IsWithinCycle Final 8 8 L now steps self.old disturbance.old }
+        ensures { PassesPart B.may (IsWithinCycle Final 8 8) IsSwitched result self.old self.new disturbance.old disturbance.new
             (record { log = B.log bus.old; script = B.script bus.old }) (record { log = B.log bus.new; script = B.script bus.new }) }
     {
         self.enter(Slot::Switch);
@@ -152,9 +152,9 @@ impl World {
         bus: &mut B,
         disturbance: &mut Disturbance,
         targets: ChanSet,
-    ) -> Result<Restored, Halt>
+    ) -> Result<SweepResult, Halt>
         requires { (L : Log) × (now : Log) × (steps : Steps) × MayRestore targets L now steps self.old disturbance.old }
-        ensures { Goes B.may (MayRestore targets) IsRestored result self.old self.new disturbance.old disturbance.new
+        ensures { PassesPart B.may (MayRestore targets) IsRestored result self.old self.new disturbance.old disturbance.new
             (record { log = B.log bus.old; script = B.script bus.old }) (record { log = B.log bus.new; script = B.script bus.new }) }
     {
         let closed = self.pass_sweep(alloc, bus, disturbance, targets)?;
@@ -162,7 +162,7 @@ impl World {
         let remaining = closed.remaining;
         let taken = self.pass_final(alloc, bus, disturbance, joined)?;
         let sent = self.pass_switch(alloc, bus, disturbance)?;
-        Ok(Restored {
+        Ok(SweepResult {
             joined,
             remaining,
             taken,

@@ -7,10 +7,10 @@ ghost use Rattle.guards_model.specs.Channels.{tolerated_faults};
 ghost use Rattle.guards_model.specs.Network.{Log};
 ghost use Rattle.guards_model.specs.Rounds.{Steps};
 ghost use Rattle.guards_world.specs.InCycle.{InCycle};
-ghost use Rattle.world_steps.specs.Arrivals.{AreArrivals};
+ghost use Rattle.guards_world.specs.Arrivals.{AreArrivals};
 ghost use Rattle.world_traffic.specs.Reading.{got_of};
-ghost use Rattle.icn_world.specs.Kept.{IsKept};
-ghost use Rattle.icn_world.specs.Stages.{Inside, Goes, IsAtStart, HasArrived};
+ghost use Rattle.icn_world.specs.Kept.{IsWorldKept};
+ghost use Rattle.icn_world.specs.Stages.{IsWithinCycle, PassesPart, IsAtStart, HasArrived};
 ghost use Rattle.icn_world.specs.Settled.{MayEnter, IsToActive, nodes_received, AreOfCycle, IsDecided, IsSettled};
 
 use crate::world::{Halt, World};
@@ -47,8 +47,8 @@ impl World {
     ) -> Result<Delivered, Halt>
         requires on { on_bus slot ≡ true }
         requires among { IsToActive slot }
-        requires stands { (L : Log) × (now : Log) × (steps : Steps) × Inside slot (slot_index slot) (slot_index slot) L now steps self.old disturbance.old }
-        ensures { Goes B.may (Inside slot (slot_index slot) (slot_index slot)) (HasArrived slot) result self.old self.new disturbance.old disturbance.new
+        requires stands { (L : Log) × (now : Log) × (steps : Steps) × IsWithinCycle slot (slot_index slot) (slot_index slot) L now steps self.old disturbance.old }
+        ensures { PassesPart B.may (IsWithinCycle slot (slot_index slot) (slot_index slot)) (HasArrived slot) result self.old self.new disturbance.old disturbance.new
             (record { log = B.log bus.old; script = B.script bus.old }) (record { log = B.log bus.new; script = B.script bus.new }) }
     {
         let members = self.switchboard.on();
@@ -66,7 +66,7 @@ impl World {
         requires on { on_bus slot ≡ true }
         requires among { IsToActive slot }
         requires stands { (L : Log) × (now : Log) × (steps : Steps) × MayEnter slot L now steps self.old disturbance.old }
-        ensures { Goes B.may (MayEnter slot) (HasArrived slot) result self.old self.new disturbance.old disturbance.new
+        ensures { PassesPart B.may (MayEnter slot) (HasArrived slot) result self.old self.new disturbance.old disturbance.new
             (record { log = B.log bus.old; script = B.script bus.old }) (record { log = B.log bus.new; script = B.script bus.new }) }
     {
         self.enter(slot);
@@ -81,7 +81,7 @@ impl World {
         disturbance: &mut Disturbance,
     ) -> Result<(), Halt>
         requires { (L : Log) × (now : Log) × (steps : Steps) × IsAtStart L now steps self.old disturbance.old }
-        ensures { Goes B.may IsAtStart (λ _. Inside Request 1 1) result self.old self.new disturbance.old disturbance.new
+        ensures { PassesPart B.may IsAtStart (λ _. IsWithinCycle Request 1 1) result self.old self.new disturbance.old disturbance.new
             (record { log = B.log bus.old; script = B.script bus.old }) (record { log = B.log bus.new; script = B.script bus.new }) }
     {
         self.open(alloc)?;
@@ -95,7 +95,7 @@ impl World {
         requires round { 1 ≤ round_number slot }
         requires stands { (L : Log) × (now : Log) × (steps : Steps) × InCycle self.old.mission L now steps slot (suc (slot_index slot)) (slot_index slot) self.old
             × AreArrivals self.old.mission (L ++ now) self.old.done slot (got_of arrived.now) }
-        ensures kept { IsKept self.old self.new }
+        ensures kept { IsWorldKept self.old self.new }
         ensures state { (L now : Log) (steps : Steps) → InCycle self.old.mission L now steps slot (suc (slot_index slot)) (slot_index slot) self.old →
             AreArrivals self.old.mission (L ++ now) self.old.done slot (got_of arrived.now) →
             self.new ≡ record self.old { nodes = nodes_received self.old.mission (L ++ now) self.old.done (round_number slot) (got_of arrived.now) self.old.nodes } }
@@ -119,7 +119,7 @@ impl World {
         requires low { 1 ≤ round_number slot }
         requires high { round_number slot ≤ 2 }
         requires stands { (L : Log) × (now : Log) × (steps : Steps) × MayEnter slot L now steps self.old disturbance.old }
-        ensures { Goes B.may (MayEnter slot) (λ _. Inside slot (suc (slot_index slot)) (suc (slot_index slot))) result self.old self.new disturbance.old disturbance.new
+        ensures { PassesPart B.may (MayEnter slot) (λ _. IsWithinCycle slot (suc (slot_index slot)) (suc (slot_index slot))) result self.old self.new disturbance.old disturbance.new
             (record { log = B.log bus.old; script = B.script bus.old }) (record { log = B.log bus.new; script = B.script bus.new }) }
     {
         let arrived = self.pass_slot(alloc, bus, slot, disturbance)?;
@@ -131,7 +131,7 @@ impl World {
     fn decide(&mut self, arrived: &Delivered) -> Reconfiguration
         requires { (L : Log) × (now : Log) × (steps : Steps) × InCycle self.old.mission L now steps Round3 4 3 self.old
             × AreArrivals self.old.mission (L ++ now) self.old.done Round3 (got_of arrived.now) }
-        ensures kept { IsKept self.old self.new }
+        ensures kept { IsWorldKept self.old self.new }
         ensures state { (L now : Log) (steps : Steps) → InCycle self.old.mission L now steps Round3 4 3 self.old →
             AreArrivals self.old.mission (L ++ now) self.old.done Round3 (got_of arrived.now) →
             InCycle self.old.mission L now steps Round3 4 4 self.new }
@@ -155,7 +155,7 @@ impl World {
         disturbance: &mut Disturbance,
     ) -> Result<Reconfiguration, Halt>
         requires { (L : Log) × (now : Log) × (steps : Steps) × MayEnter Round3 L now steps self.old disturbance.old }
-        ensures { Goes B.may (MayEnter Round3) IsDecided result self.old self.new disturbance.old disturbance.new
+        ensures { PassesPart B.may (MayEnter Round3) IsDecided result self.old self.new disturbance.old disturbance.new
             (record { log = B.log bus.old; script = B.script bus.old }) (record { log = B.log bus.new; script = B.script bus.new }) }
     {
         let arrived = self.pass_slot(alloc, bus, Slot::Round3, disturbance)?;
@@ -170,7 +170,7 @@ impl World {
         disturbance: &mut Disturbance,
     ) -> Result<Reconfiguration, Halt>
         requires { (L : Log) × (now : Log) × (steps : Steps) × IsAtStart L now steps self.old disturbance.old }
-        ensures { Goes B.may IsAtStart IsSettled result self.old self.new disturbance.old disturbance.new
+        ensures { PassesPart B.may IsAtStart IsSettled result self.old self.new disturbance.old disturbance.new
             (record { log = B.log bus.old; script = B.script bus.old }) (record { log = B.log bus.new; script = B.script bus.new }) }
     {
         self.ask(alloc, bus, disturbance)?;

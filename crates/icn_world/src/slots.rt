@@ -8,9 +8,9 @@ ghost use Rattle.guards_model.specs.Rounds.{Steps};
 ghost use Rattle.guards_runs.specs.Cycles.{cycle_at};
 ghost use Rattle.guards_world.specs.Worlds.{StandsForWorld};
 ghost use Rattle.guards_world.specs.InCycle.{InCycle};
-ghost use Rattle.world_nodes.specs.NodeLists.{AreInRange};
-ghost use Rattle.world_steps.specs.Arrivals.{AreArrivals, HaveWorked};
-ghost use Rattle.icn_world.specs.Kept.{IsKept};
+ghost use Rattle.guards_world.specs.NodeLists.{AreInRange};
+ghost use Rattle.guards_world.specs.Arrivals.{AreArrivals, HaveWorked};
+ghost use Rattle.icn_world.specs.Kept.{IsWorldKept};
 ghost use Rattle.icn_world.specs.Told.{AreLinesOf};
 ghost use Rattle.icn_world.specs.Restored.{HaveTaken};
 
@@ -26,7 +26,7 @@ impl World {
         requires stands { (L : Log) × StandsForWorld self.old L }
         requires below { self.old.done < self.old.mission.cycles }
         requires unspent { self.old.spent ≡ None }
-        ensures kept { IsKept self.old self.new }
+        ensures kept { IsWorldKept self.old self.new }
         ensures state { (L : Log) (steps : Steps) → StandsForWorld self.old L →
             OnOk result (InCycle self.old.mission L [] steps Request 0 0 self.new) }
     {
@@ -41,7 +41,7 @@ impl World {
 
     // Enters a slot: its crashes.
     pub(crate) fn enter(&mut self, slot: Slot)
-        ensures kept { IsKept self.old self.new }
+        ensures kept { IsWorldKept self.old self.new }
         ensures state { (L now : Log) (steps : Steps) (before : SlotValue) (carried handed : ℕ) → up_to before slot ≡ true → on_bus slot ≡ true →
             InCycle self.old.mission L now steps before carried handed self.old →
             InCycle self.old.mission L now steps slot carried handed self.new }
@@ -54,7 +54,7 @@ impl World {
 
     // Hands over the request slot.
     pub(crate) fn hear<A: Arrived>(&mut self, arrived: &A)
-        ensures kept { IsKept self.old self.new }
+        ensures kept { IsWorldKept self.old self.new }
         ensures state { (L now : Log) (steps : Steps) → InCycle self.old.mission L now steps Request 1 0 self.old →
             AreArrivals self.old.mission (L ++ now) self.old.done Request (A.got arrived.now) →
             InCycle self.old.mission L now steps Request 1 1 self.new }
@@ -69,7 +69,7 @@ impl World {
         arrived: &A,
     ) -> Result<Lines, AllocError>
         requires { (L : Log) × (now : Log) × (steps : Steps) × InCycle self.old.mission L now steps Vote 6 5 self.old }
-        ensures kept { IsKept self.old self.new }
+        ensures kept { IsWorldKept self.old self.new }
         ensures state { (L now : Log) (steps : Steps) → InCycle self.old.mission L now steps Vote 6 5 self.old →
             AreArrivals self.old.mission (L ++ now) self.old.done Vote (A.got arrived.now) →
             HaveWorked self.old.mission (L ++ now) self.old.done →
@@ -90,7 +90,7 @@ impl World {
         arrived: &A,
     ) -> Result<ChanSet, AllocError>
         requires { AreInRange (A.got arrived.now) }
-        ensures kept { IsKept self.old self.new }
+        ensures kept { IsWorldKept self.old self.new }
         ensures state { (L now : Log) (steps : Steps) → InCycle self.old.mission L now steps Final 8 7 self.old →
             AreArrivals self.old.mission (L ++ now) self.old.done Final (A.got arrived.now) →
             OnOk result (InCycle self.old.mission L now steps Final 8 8 self.new) }

@@ -11,7 +11,7 @@ use std::alloc::Global;
 use world_nodes::Lines;
 
 impl World {
-    ghost use Rattle.icn_world.specs.Stages.{Goes, Inside};
+    ghost use Rattle.icn_world.specs.Stages.{PassesPart, IsWithinCycle};
     ghost use Rattle.icn_world.specs.Voted.{HasVoted};
 
     // Passes the vote slot, in which all active channels send their output words to each other. Answers the lines of those
@@ -22,8 +22,8 @@ impl World {
         bus: &mut B,
         disturbance: &mut Disturbance,
     ) -> Result<Lines, Halt>
-        requires { (L : Log) × (now : Log) × (steps : Steps) × Inside Tasks 5 5 L now steps self.old disturbance.old }
-        ensures { Goes B.may (Inside Tasks 5 5) HasVoted result self.old self.new disturbance.old disturbance.new
+        requires { (L : Log) × (now : Log) × (steps : Steps) × IsWithinCycle Tasks 5 5 L now steps self.old disturbance.old }
+        ensures { PassesPart B.may (IsWithinCycle Tasks 5 5) HasVoted result self.old self.new disturbance.old disturbance.new
             (record { log = B.log bus.old; script = B.script bus.old }) (record { log = B.log bus.new; script = B.script bus.new }) }
     {
         let arrived = self.pass_slot(alloc, bus, Slot::Vote, disturbance)?;

@@ -4,7 +4,7 @@ ghost use Rattle.guards_model.specs.declared.Slot.TheVariants.{Tasks};
 ghost use Rattle.guards_model.specs.Network.{Log};
 ghost use Rattle.guards_model.specs.Rounds.{Steps};
 ghost use Rattle.guards_world.specs.InCycle.{InCycle};
-ghost use Rattle.icn_world.specs.Kept.{IsKept};
+ghost use Rattle.icn_world.specs.Kept.{IsWorldKept};
 ghost use Rattle.icn_world.specs.Work.{HasDoneWork};
 
 use crate::world::World;
@@ -25,7 +25,7 @@ impl World {
         natives: &C,
     ) -> Result<Traces, AllocError>
         requires { (L : Log) × (now : Log) × (steps : Steps) × InCycle self.old.mission L now steps Tasks 5 4 self.old }
-        ensures kept { IsKept self.old self.new }
+        ensures kept { IsWorldKept self.old self.new }
         ensures worked { IfOk result (λ traces. (made : Steps) × ((L now : Log) (steps : Steps) →
             InCycle self.old.mission L now steps Tasks 5 4 self.old → HasDoneWork made traces.items L now self.new)) }
     {

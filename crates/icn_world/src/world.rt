@@ -78,7 +78,7 @@ impl World {
     pub fn start(alloc: Global, mission: Mission) -> Result<World, AllocError>
         ensures { IfOk result (λ world. world ≡ first_world mission) }
     {
-        mission.know_sizes();
+        mission.prove_sizes();
         let channels = mission.rules().channels;
         let nodes = Nodes::first(alloc, &mission)?;
         let ledger = Ledger::first(channels, mission.return_after());

@@ -5,7 +5,7 @@ use Rattle.std.proofs.lemmas.List.{length-set}
 use Rattle.guards_model.specs.Contexts.{ContextValue}
 use Rattle.guards_model.specs.Missions.{MissionValue, cycle_writes}
 use Rattle.guards_model.specs.Tasks.{WriteValue, written_if, apply, whole}
-use Rattle.ideal_run.specs.Ideal.{ideal, ideal_inputs}
+use Rattle.guards_runs.specs.IdealMachine.{ideal, ideal_inputs}
 
 written_length : (w : Option WriteValue) (ctx : ContextValue) (inputs : List ℤ) (c : ℕ) → length (written_if w ctx inputs c) ≡ length ctx
 written_length None ctx inputs c = refl

@@ -13,8 +13,8 @@ use Rattle.guards_model.specs.Words.{is_word}
 use Rattle.guards_model.proofs.BoolTests.{both}
 use Rattle.guards_model.proofs.NumbersBelow.{below_there}
 use Rattle.guards_model.proofs.Tables.{at-by_channel}
-use Rattle.guards_laws.proofs.WordRanges.{sensor_words}
-use Rattle.ideal_run.specs.Ideal.{sensed_at, sensed, sensed_word, ideal_inputs}
+use Rattle.guards_model.proofs.SensorWords.{sensor_words}
+use Rattle.guards_runs.specs.IdealMachine.{sensed_at, sensed, sensed_word, ideal_inputs}
 
 -- a channel has as many words as the mission's width
 pub sensor_length : (M : MissionValue) (p c : ℕ) → IsMission M → p < M.rules.channels → length (sensor M p c) ≡ M.width

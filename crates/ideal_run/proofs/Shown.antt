@@ -7,15 +7,15 @@ use Rattle.std.specs.List.{range_with_len}
 use Rattle.guards_model.specs.Channels.{numbers_below}
 use Rattle.guards_model.specs.Texts.{LineValue}
 use Rattle.guards_model.specs.Records.{shown_line}
-use Rattle.ideal_run.specs.Report.{line_with}
+use Rattle.guards_runs.specs.IdealReport.{ideal_line}
 
 -- the line of a channel, with a place for each word, vote and count of the greatest mission
 abbrev pub whole_line : ℕ → List ℤ → List (Option ℤ) → LineValue
 whole_line chan inputs votes = record { channel = chan; inputs = inputs; votes = votes; judged = []; counts = replicate 7 0 }
 
 pub line_shown : (channels width chan : ℕ) (inputs : List ℤ) (votes : List (Option ℤ)) (outputs : List ℤ) → channels ≤ 7 → take (length outputs) votes ≡ map Some outputs →
-    shown_line channels width (length outputs) (whole_line chan inputs votes) ≡ line_with channels (take width inputs) outputs chan
-unfolding line_with
+    shown_line channels width (length outputs) (whole_line chan inputs votes) ≡ ideal_line channels (take width inputs) outputs chan
+unfolding ideal_line
 line_shown channels width chan inputs votes outputs most voted =
     let zeros : take channels (replicate 7 0) ≡ replicate channels 0 = take-replicate channels 7 0 most in
     ap (λ (counts : List ℕ). record { channel = chan; inputs = take width inputs; votes = take (length outputs) votes; judged = []; counts = counts }) zeros

@@ -5,7 +5,7 @@ use Rattle.std.proofs.KnownBytes.{Appends-nil, Appends-trans}
 use Rattle.guards_model.specs.Missions.{MissionValue}
 use Rattle.ideal_run.specs.declared.output.WriteStop.{WriteStop}
 use Rattle.ideal_run.specs.declared.output.WriteStop.TheVariants.{Failed, Memory}
-use Rattle.ideal_run.specs.Report.{head, last, part, parts_below, ideal_report}
+use Rattle.guards_runs.specs.IdealReport.{head, last, part, parts_below, ideal_report}
 use Rattle.ideal_run.specs.Writes.{SinkView, Writes}
 
 -- nothing was written of a text for which there was no memory

@@ -1,7 +1,7 @@
 //! The cycles of a run without faults.
 ghost use Rattle.std.specs.Prelude.{◌≡◌, ◌<◌, ◌+◌, ◌-◌, ◌++◌, length, replicate, pos};
 ghost use Rattle.guards_model.specs.Tasks.{whole};
-ghost use Rattle.ideal_run.specs.Ideal.{ideal, ideal_inputs, sensed, sensed_at, sensed_word};
+ghost use Rattle.guards_runs.specs.IdealMachine.{ideal, ideal_inputs, sensed, sensed_at, sensed_word};
 ghost use Rattle.task_table.specs.Tables.{table_writes};
 
 use context_blocks::Context;
@@ -16,8 +16,8 @@ fn source_word(mission: &Mission, chan: Chan, cycle: u32) -> SourceWord
     requires { chan < mission.now.rules.channels }
     ensures { result ≡ sensed_word mission.now cycle chan }
 {
-    mission.is_mission();
-    mission.know_sizes();
+    mission.prove_mission();
+    mission.prove_sizes();
     SourceWord {
         width: mission.width,
         words: mission.sensor(chan, cycle),
@@ -30,7 +30,7 @@ fn source_word(mission: &Mission, chan: Chan, cycle: u32) -> SourceWord
 fn word_at(mission: &Mission, number: u8, cycle: u32) -> Option<SourceWord>
     ensures { result ≡ sensed_at mission.now cycle number }
 {
-    mission.know_sizes();
+    mission.prove_sizes();
     if number >= mission.rules.channels {
         return None;
     }
@@ -53,11 +53,11 @@ fn sensed(mission: &Mission, cycle: u32) -> [Option<SourceWord>; 7]
 
 /// The words that the tasks of a cycle read: per place the lower median of the channels' sensor words, and 0 past the
 /// mission's width.
-#[tactic(auto, unfolding(crate::specs::Ideal::ideal_inputs))]
+#[tactic(auto, unfolding(guards_runs::specs::IdealMachine::ideal_inputs))]
 fn inputs_of(mission: &Mission, cycle: u32) -> [i64; 4]
     ensures { result ≡ ideal_inputs mission.now cycle ++ replicate (4 - mission.now.width) (pos 0) }
 {
-    mission.know_sizes();
+    mission.prove_sizes();
     let words = sensed(mission, cycle);
     let active = ChanSet::below(mission.rules().channels);
     let width = mission.width();
@@ -85,7 +85,7 @@ pub fn run_cycle<C: Calls>(
     ensures context { context.new ≡ ideal mission.now (cycle + 1) }
     ensures inputs { result ≡ ideal_inputs mission.now cycle ++ replicate (4 - mission.now.width) (pos 0) }
 {
-    mission.know_sizes();
+    mission.prove_sizes();
     let inputs = inputs_of(mission, cycle);
     work(mission.table(), cycle, context, &inputs, natives);
     inputs

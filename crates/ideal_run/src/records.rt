@@ -2,8 +2,8 @@
 ghost use Rattle.std.specs.Prelude.{◌≡◌, ◌≤◌, ◌+◌, ℕ, map, length, take, IfOk};
 ghost use Rattle.guards_model.specs.Channels.{numbers_below};
 ghost use Rattle.guards_model.specs.Records.{shown, shown_line};
-ghost use Rattle.ideal_run.specs.Ideal.{ideal};
-ghost use Rattle.ideal_run.specs.Report.{line_with, record_with, record_text, head, part, last};
+ghost use Rattle.guards_runs.specs.IdealMachine.{ideal};
+ghost use Rattle.guards_runs.specs.IdealReport.{ideal_line, record_with, record_text, head, part, last};
 
 use crate::machine::run_cycle;
 use crate::votes::{count_of, votes_of};
@@ -17,7 +17,7 @@ use std::alloc::{AllocError, Global};
 #[tactic(auto, using(crate::proofs::Shown::line_shown))]
 fn line_of(chan: Chan, inputs: [i64; 4], ballot: &Ballot) -> ChannelLine
     ensures { (channels width : ℕ) → channels ≤ 7 →
-        shown_line channels width (length ballot.now) result ≡ line_with channels (take width inputs) ballot.now chan }
+        shown_line channels width (length ballot.now) result ≡ ideal_line channels (take width inputs) ballot.now chan }
 {
     ChannelLine {
         chan,
@@ -37,7 +37,7 @@ fn lines_of(
 ) -> Result<Lines, AllocError>
     requires { channels ≤ 7 }
     ensures { IfOk result (λ lines. (width : ℕ) →
-        map (shown_line channels width (length ballot.now)) lines.items ≡ map (line_with channels (take width inputs) ballot.now) (numbers_below channels)) }
+        map (shown_line channels width (length ballot.now)) lines.items ≡ map (ideal_line channels (take width inputs) ballot.now) (numbers_below channels)) }
 {
     let mut lines = Lines::new(alloc);
     for number in 0..channels {
@@ -50,7 +50,7 @@ fn lines_of(
 }
 
 /// The record of a cycle.
-#[tactic(auto, unfolding(crate::specs::Report::record_with))]
+#[tactic(auto, unfolding(guards_runs::specs::IdealReport::record_with))]
 fn record_of(
     alloc: Global,
     channels: u8,
@@ -76,7 +76,7 @@ fn record_of(
 }
 
 /// The text of a cycle's record.
-#[tactic(auto, unfolding(crate::specs::Report::record_text))]
+#[tactic(auto, unfolding(guards_runs::specs::IdealReport::record_text))]
 fn record_text(
     alloc: Global,
     channels: u8,
@@ -108,7 +108,7 @@ pub fn cycle_text<C: Calls>(
     ensures context { context.new ≡ ideal mission.now (cycle + 1) }
     ensures text { IfOk result (λ text. text ≡ part mission.now cycle) }
 {
-    mission.know_sizes();
+    mission.prove_sizes();
     let inputs = run_cycle(mission, cycle, context, natives);
     let ballot = mission.output_words(context);
     let channels = mission.rules().channels;
@@ -117,7 +117,7 @@ pub fn cycle_text<C: Calls>(
 }
 
 /// The head line.
-#[tactic(auto, unfolding(crate::specs::Report::head))]
+#[tactic(auto, unfolding(guards_runs::specs::IdealReport::head))]
 pub fn head(alloc: Global, mission: &Mission) -> Result<Text, AllocError>
     ensures { IfOk result (λ text. text ≡ head mission.now) }
 {
@@ -127,7 +127,7 @@ pub fn head(alloc: Global, mission: &Mission) -> Result<Text, AllocError>
 }
 
 /// The last line.
-#[tactic(auto, unfolding(crate::specs::Report::last))]
+#[tactic(auto, unfolding(guards_runs::specs::IdealReport::last))]
 pub fn last(alloc: Global, mission: &Mission) -> Result<Text, AllocError>
     ensures { IfOk result (λ text. text ≡ last mission.now) }
 {

@@ -1,7 +1,7 @@
 //! Runs a mission without faults and writes its report.
 ghost use Rattle.std.specs.Prelude.{◌≡◌, ◌+◌};
-ghost use Rattle.ideal_run.specs.Ideal.{ideal};
-ghost use Rattle.ideal_run.specs.Report.{head, last, part, parts_below, ideal_report};
+ghost use Rattle.guards_runs.specs.IdealMachine.{ideal};
+ghost use Rattle.guards_runs.specs.IdealReport.{head, last, part, parts_below, ideal_report};
 ghost use Rattle.ideal_run.specs.Writes.{Writes, sink_view};
 
 use crate::output::{WriteStop, put};

@@ -1,4 +1,4 @@
 mod SameSets
 mod Taken
-pub mod Finding
+pub mod FirstPassing
 pub mod Filling

@@ -1,4 +1,4 @@
-//! Worked missions, and what the definitions of diagnosis_laws compute of them.
+//! Worked missions, and what the definitions of recovery_laws compute of them.
 ghost use Rattle.std.specs.Prelude.{◌≡◌, ◌*◌, true, false, [], ◌∷◌, count_by, Some, None};
 ghost use Rattle.std.specs.List.{list_all};
 ghost use Rattle.guards_model.specs.declared.Law.TheVariants.{Multiply, Subtract};
@@ -13,10 +13,10 @@ ghost use Rattle.model_rows.specs.ThreeRemain as three_remain_row;
 ghost use Rattle.model_rows.specs.SilentSender as silent_sender_row;
 ghost use Rattle.model_rows.specs.DownAtTheEnd as down_at_the_end_row;
 ghost use Rattle.model_rows.specs.DamageFound as damage_found_row;
-ghost use Rattle.diagnosis_laws.specs.Diagnosed.{is_spotless, is_silent, is_judged, in_a_row, count_before_row, candidates_in, disturbed_cycles};
-ghost use Rattle.diagnosis_laws.specs.CountHistories.{peak_of};
-ghost use Rattle.diagnosis_laws.specs.WrongVotes.{finds_wrong, counts_against};
-ghost use Rattle.diagnosis_laws.specs.LeastPeriods.{least_period};
+ghost use Rattle.recovery_laws.specs.Diagnosed.{is_spotless, is_silent, is_judged, in_a_row, count_before_row, candidates_in, disturbed_cycles};
+ghost use Rattle.recovery_laws.specs.CountHistories.{peak_of};
+ghost use Rattle.recovery_laws.specs.WrongVotes.{finds_wrong, counts_against};
+ghost use Rattle.recovery_laws.specs.LeastPeriods.{least_period};
 ghost use Rattle.law_rows.specs.LawsOfDecay.{decaying};
 ghost use Rattle.law_rows.specs.TooFewAccusers as too_few_accusers_row;
 ghost use Rattle.law_rows.specs.JudgedTwice as judged_twice_row;

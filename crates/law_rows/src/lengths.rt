@@ -8,8 +8,8 @@ ghost use Rattle.guards_runs.specs.Cycles.{cycle_at, cycles_before, joins_from, 
 ghost use Rattle.guards_runs.specs.Promises.{is_transfer_to};
 ghost use Rattle.model_rows.specs.Restored as restored_row;
 ghost use Rattle.demo_mission.specs.Demo.{demo_mission};
-ghost use Rattle.transfer_laws.specs.Lengths.{fits_after, transfer_length, GoesRound, IsKeptTo};
-ghost use Rattle.transfer_laws.specs.Endless.{never_ends};
+ghost use Rattle.recovery_laws.specs.Lengths.{fits_after, transfer_length, GoesRound, IsKeptTo};
+ghost use Rattle.recovery_laws.specs.Endless.{never_ends};
 ghost use Rattle.law_rows.specs.Missions.{four_writes, late_fit};
 
 /// A transfer of the mission in which a channel crashes and returns takes three cycles, which is its bound.

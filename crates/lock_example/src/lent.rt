@@ -5,9 +5,8 @@ ghost use Rattle.ctx_lock.specs.History.{times};
 ghost use Rattle.lock_example.specs.Parts.{part};
 
 use crate::score::Score;
-use ctx_lock::{Actor, Gate, Turned};
+use ctx_lock::{Actor, Gate, Turned, both};
 use guards_base::Refused;
-use lock_workers::both;
 use std::alloc::Global;
 use std::sync::Wait;
 use std::thread::Threads;

@@ -6,11 +6,11 @@ use crate::order::InOrder;
 use context_blocks::{Block, Context};
 use ctx_lock::{Gate, OpenGate};
 use dirty_tags::{Plan, Tags};
-use round_work::{Worked, work_round};
 use std::alloc::{AllocError, Global};
 use std::sync::Wait;
 use std::test::Fail;
 use std::thread::Threads;
+use sweep_round::{WorkedRound, work_round};
 
 // Works a round of cycle 9, with the first input 5, on blocks of zeros.
 fn worked<G: Gate, R: Threads + Wait + Sync>(
@@ -19,7 +19,7 @@ fn worked<G: Gate, R: Threads + Wait + Sync>(
     busy: bool,
     plan: Plan,
     gate: &G,
-) -> Result<Option<Worked>, AllocError>
+) -> Result<Option<WorkedRound>, AllocError>
     requires { All (λ b. b < 64) plan }
 {
     let Some(table) = table(alloc, busy)? else {
@@ -41,7 +41,7 @@ fn block_after(block: usize, writes: usize) -> Block {
 }
 
 // Whether the copies are of the blocks 0, 1, 2 and so on, and they and the context are the replay of the history.
-fn is_replayed(worked: &Worked) -> bool {
+fn is_replayed(worked: &WorkedRound) -> bool {
     let mut writes: usize = 0;
     let mut copies: usize = 0;
     for step in worked.history.steps().as_slice().iter() {

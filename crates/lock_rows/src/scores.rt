@@ -1,6 +1,5 @@
-use ctx_lock::{Actor, Gate, OpenGate};
+use ctx_lock::{Actor, Gate, OpenGate, both};
 use lock_example::Score;
-use lock_workers::both;
 use std::sync::atomic::{AtomicBool, Ordering};
 use std::test::Fail;
 use std::thread;

@@ -6,12 +6,12 @@ use Rattle.toml.specs.Data.{Data, Members, get_member}
 use Rattle.guards_model.specs.Words.{is_word}
 use Rattle.guards_model.specs.Missions.{ActuatorValue, within, is_actuator}
 use Rattle.guards_model.proofs.BoolTests.{both, and_true}
-use Rattle.mission_checks.specs.Checks as checks
-use Rattle.mission_checks.specs.Checks.{field, required, integer_of, table_of, only, demand, alone, how_many}
+use Rattle.document_checks.specs.Checks as checks
+use Rattle.document_checks.specs.Checks.{field, required, integer_of, table_of, only, demand, alone, how_many}
 use Rattle.mission_text.specs.Actuators.{step_at, steps_at, words_or_zeros, actuator_at, actuator_or_none, actuator_field, is_step, are_steps, are_starts}
 use Rattle.mission_text.proofs.ActuatorWords.{zeros_start}
 use Rattle.mission_laws.specs.Integers.{holds_words, items_hold_words, members_hold_words}
-use Rattle.mission_laws.proofs.Passing.{Passes, passes_ok, passes_then, demanded, member_holds, required_holds, table_holds, integer_is_word, sized_holds, each_passes, each_counts, integers_are, only_count}
+use Rattle.mission_laws.proofs.CheckedWords.{Passes, passes_ok, passes_then, demanded, member_holds, required_holds, table_holds, integer_is_word, sized_holds, each_passes, each_counts, integers_are, only_count}
 
 step_in : (path : List ℕ) (value : Data) → holds_words value ≡ true → Passes is_step (step_at path value)
 unfolding step_at

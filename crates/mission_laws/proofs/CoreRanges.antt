@@ -4,13 +4,13 @@ use Rattle.toml.specs.Data.{Data, Members, get_member}
 use Rattle.guards_model.specs.declared.Law.TheVariants.{Multiply}
 use Rattle.guards_model.specs.Missions.{within, is_law, is_rules}
 use Rattle.guards_model.proofs.BoolTests.{both, and_true}
-use Rattle.mission_checks.specs.Checks.{field, text_of, table_of, only, demand, number, number_or}
+use Rattle.document_checks.specs.Checks.{field, text_of, table_of, only, demand, number, number_or}
 use Rattle.mission_text.specs.declared.core_fields.CoreSizes.{CoreSizes}
 use Rattle.mission_text.specs.declared.core_fields.Limits.{Limits}
 use Rattle.mission_text.specs.declared.core_fields.Choices.{Choices}
 use Rattle.mission_text.specs.declared.core_fields.CoreFields.{CoreFields}
-use Rattle.mission_text.specs.Core.{core_keys, sizes_at, limits_at, law_named, law_at, law_or, law_field, choices_at, core_at, rules_of}
-use Rattle.mission_laws.proofs.Passing.{Passes, passes_ok, passes_then, demanded, number_within, number_or_within}
+use Rattle.mission_text.specs.Core.{core_keys, sizes_at, limits_at, law_named, decay_law_at, law_or, law_field, choices_at, core_at, rules_of}
+use Rattle.mission_laws.proofs.CheckedWords.{Passes, passes_ok, passes_then, demanded, number_within, number_or_within}
 
 abbrev pub are_sizes : CoreSizes → Bool
 are_sizes s = (within 3 7 s.channels && within 1 2000 s.cycles) && (within 1 256 s.blocks && within 1 4 s.width)
@@ -45,8 +45,8 @@ limits_in path fields =
     (and_true (within 1 64 sweep) (within 0 64 last) (number_or_within 16 1 64 path (codes "sweep") fields refl sweep d) (number_or_within 8 0 64 path (codes "final") fields refl last e)))
     (number_or_within 2 0 1000 path (codes "return_after") fields refl return_after c)))))))
 
-law_in : (version : ℕ) (path : List ℕ) (value : Data) → Passes (is_law version) (law_at version path value)
-unfolding law_at
+law_in : (version : ℕ) (path : List ℕ) (value : Data) → Passes (is_law version) (decay_law_at version path value)
+unfolding decay_law_at
 law_in version path value =
     passes_then (is_law version) (text_of path value) _ (λ text _.
     passes_then (is_law version) (law_named path text) _ (λ law _.

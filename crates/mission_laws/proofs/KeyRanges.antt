@@ -24,29 +24,29 @@ use Rattle.task_table.specs.TableFaults.{table_fault}
 use Rattle.task_table.specs.Tables.{named_tasks, names_tasks}
 use Rattle.expr_text.specs.declared.fault.ExprFault.{ExprFault}
 use Rattle.expr_text.specs.declared.state.Sizes.{Sizes}
-use Rattle.expr_text.specs.Reading.{State, initial, after, kind, finished, run}
-use Rattle.expr_text.specs.Parsed.{ended, gone_on, read_from, sized, parsed}
+use Rattle.expr_text.specs.Reading.{State, initial, after, byte_kind, finished, run}
+use Rattle.expr_text.specs.Parsed.{ended, gone_on, read_from, within_size, parsed}
 use Rattle.expr_text.proofs.Scan.{spelled_at_end}
 use Rattle.expr_text.proofs.Canonical.{read_in}
-use Rattle.expr_text.proofs.Fitting.{tree_fits}
-use Rattle.fault_text.specs.FaultTexts.{crash_keys, restart_keys, damage_keys, lose_keys, forge_keys, piece_slots, cycle_field, byte_field, sender_field, receiver_field, value_field, piece_field, named_slot, slot_at, slot_field, crash_at, restart_at, damage_at, lose_at, forge_at, fault_of_kind, fault_at, faults_at, kept_script, script_at, script_or_empty, script_field}
-use Rattle.fault_text.specs.Entries.{is_entry, FitsSizes}
-use Rattle.fault_text.proofs.SlotNames.{find_passes}
-use Rattle.fault_text.proofs.Fits.{script_fits}
-use Rattle.fault_text.proofs.Kept.{none_broken}
-use Rattle.mission_checks.specs.Checks as checks
-use Rattle.mission_checks.specs.Checks.{Checked, ◌>>=◌, fails, field, required, text_of, table_of, array_of, only, demand, alone, integers, how_many}
+use Rattle.expr_text.proofs.NamedInExpressions.{tree_fits}
+use Rattle.fault_entries.specs.FaultTexts.{crash_keys, restart_keys, damage_keys, lose_keys, forge_keys, piece_slots, cycle_field, byte_field, sender_field, receiver_field, value_field, piece_field, named_slot, slot_at, slot_field, crash_at, restart_at, damage_at, lose_at, forge_at, fault_of_kind, fault_at, faults_at, kept_script, script_at, script_or_empty, script_field}
+use Rattle.fault_entries.specs.Entries.{is_entry, FitsSizes}
+use Rattle.fault_entries.proofs.SlotNames.{find_passes}
+use Rattle.fault_entries.proofs.Fits.{script_fits}
+use Rattle.fault_entries.proofs.FaultAnswers.{none_broken}
+use Rattle.document_checks.specs.Checks as checks
+use Rattle.document_checks.specs.Checks.{Checked, ◌>>=◌, fails, field, required, text_of, table_of, array_of, only, demand, alone, integers, how_many}
 use Rattle.mission_text.specs.declared.blocks.InitBlock.{InitBlock}
 use Rattle.mission_text.specs.Blocks.{init_block_at, init_blocks_at, with_blocks, initial_at, initial_or_zero, initial_field, is_init_block, is_block}
 use Rattle.mission_text.specs.Expressions.{expression_or, expression_at}
-use Rattle.mission_text.specs.Tasks.{expression_or_none, set_at, four_sets_at, sets_at, write_keys, write_at, name_at, writes_at, task_at, tasks_field, are_sets, is_read_task, has_name}
+use Rattle.mission_text.specs.Tasks.{expression_or_none, set_expression_at, four_sets_at, expressions_at, write_keys, write_at, name_at, writes_at, task_at, tasks_field, are_sets, is_read_task, has_name}
 use Rattle.mission_text.specs.Rows.{place_or_unknown, place_at, row_at, rows_field, table_or, table_field}
 use Rattle.mission_text.specs.Outputs.{word_or, output_at, outputs_field}
 use Rattle.mission_text.specs.Sensors.{sensor_row_at, sensors_field}
 use Rattle.mission_text.proofs.Contexts.{whole_start, zeroed_whole}
 use Rattle.mission_text.proofs.TableParts.{table_whole}
 use Rattle.mission_laws.specs.Integers.{holds_words, items_hold_words, members_hold_words}
-use Rattle.mission_laws.proofs.Passing.{Passes, passes_ok, passes_err, passes_then, passes_if, number_within, member_holds, required_holds, table_holds, array_holds, integer_is_word, sized_holds, each_passes, each_counts, are_words, integers_are, only_count}
+use Rattle.mission_laws.proofs.CheckedWords.{Passes, passes_ok, passes_err, passes_then, passes_if, number_within, member_holds, required_holds, table_holds, array_holds, integer_is_word, sized_holds, each_passes, each_counts, are_words, integers_are, only_count}
 
 -- ---- expressions
 
@@ -67,13 +67,13 @@ module _ (sizes : Sizes) where
 
   ran : (bytes : List ℕ) (at : ℕ) (s : State) (e : Expression) → read_from sizes bytes at s ≡ Ok e → Ran bytes s e
   ran [] at s e is = (s, refl, complete at (finished s) e is)
-  ran (byte ∷ bytes) at s e is = ran_on bytes at e (after sizes s (kind byte)) (λ next more. ran bytes (at + 1) next e more) is
+  ran (byte ∷ bytes) at s e is = ran_on bytes at e (after sizes s (byte_kind byte)) (λ next more. ran bytes (at + 1) next e more) is
 
   small_one : (b : Bool) (x e : Expression) (fault : ExprFault) → (if b then Ok x else Err fault) ≡ Ok e → x ≡ e
   small_one true x e fault is = cc
   small_one false x e fault is = absurd cc
 
-  measured : (r : Result Expression ExprFault) (e : Expression) → sized r ≡ Ok e → r ≡ Ok e
+  measured : (r : Result Expression ExprFault) (e : Expression) → within_size r ≡ Ok e → r ≡ Ok e
   measured (Ok x) e is = ap Ok (small_one _ x e _ is)
   measured (Err fault) e is = absurd cc
 
@@ -86,7 +86,7 @@ module _ (sizes : Sizes) where
       → fits_sizes sizes.blocks sizes.width e ≡ true
   unfolding parsed
   parsed_fits few text e is =
-      let all = ran text 0 initial e (measured (read_from sizes text 0 initial) e (short_one (nat_lt 1100 (length text)) (sized (read_from sizes text 0 initial)) _ e is)) in
+      let all = ran text 0 initial e (measured (read_from sizes text 0 initial) e (short_one (nat_lt 1100 (length text)) (within_size (read_from sizes text 0 initial)) _ e is)) in
       tree_fits sizes few e (read_in sizes few text e (spelled_at_end sizes few text all.0 e all.1 (sym all.2)))
 
 module _ (blocks width : ℕ) (few : blocks ≤ 256) where
@@ -146,8 +146,8 @@ module _ (blocks width : ℕ) (few : blocks ≤ 256) where
   optional_fits path None = passes_ok is_set None refl
   optional_fits path (Some value) = passes_then is_set (expression_at blocks width path value) _ (λ e given. passes_ok is_set (Some e) (expression_fits path value e given))
 
-  set_fits : (path key : List ℕ) (fields : Members) → Passes is_set (set_at blocks width path key fields)
-  unfolding set_at
+  set_fits : (path key : List ℕ) (fields : Members) → Passes is_set (set_expression_at blocks width path key fields)
+  unfolding set_expression_at
   set_fits path key fields = optional_fits (field path key) (get_member key fields)
 
   abbrev are_four : List (Option Expression) → Bool
@@ -157,10 +157,10 @@ module _ (blocks width : ℕ) (few : blocks ≤ 256) where
       → Passes are_four (four_sets_at blocks width path k0 k1 k2 k3 fields)
   unfolding four_sets_at
   four_fit path k0 k1 k2 k3 fields =
-      passes_then are_four (set_at blocks width path k0 fields) _ (λ a x.
-      passes_then are_four (set_at blocks width path k1 fields) _ (λ b y.
-      passes_then are_four (set_at blocks width path k2 fields) _ (λ c z.
-      passes_then are_four (set_at blocks width path k3 fields) _ (λ d w.
+      passes_then are_four (set_expression_at blocks width path k0 fields) _ (λ a x.
+      passes_then are_four (set_expression_at blocks width path k1 fields) _ (λ b y.
+      passes_then are_four (set_expression_at blocks width path k2 fields) _ (λ c z.
+      passes_then are_four (set_expression_at blocks width path k3 fields) _ (λ d w.
       passes_ok are_four (a ∷ b ∷ c ∷ d ∷ [])
       (and_true (is_set a) (is_set b && (is_set c && (is_set d && true))) (set_fits path k0 fields a x)
       (and_true (is_set b) (is_set c && (is_set d && true)) (set_fits path k1 fields b y)
@@ -178,8 +178,8 @@ module _ (blocks width : ℕ) (few : blocks ≤ 256) where
       (eq-eqb (length (low ++ high)) 8 (length-append low high ∙ omega (arith, eqb-true (length low) 4 a.0, eqb-true (length high) 4 b.0)))
       (all-append is_set low high a.1 b.1)
 
-  sets_fit : (path : List ℕ) (fields : Members) → Passes are_eight (sets_at blocks width path fields)
-  unfolding sets_at
+  sets_fit : (path : List ℕ) (fields : Members) → Passes are_eight (expressions_at blocks width path fields)
+  unfolding expressions_at
   sets_fit path fields =
       passes_then are_eight (four_sets_at blocks width path (codes "w0") (codes "w1") (codes "w2") (codes "w3") fields) _ (λ low l.
       passes_then are_eight (four_sets_at blocks width path (codes "w4") (codes "w5") (codes "w6") (codes "w7") fields) _ (λ high h.
@@ -195,7 +195,7 @@ module _ (blocks width : ℕ) (few : blocks ≤ 256) where
       passes_then is_read_write (table_of path value) _ (λ fields _.
       passes_then is_read_write (only write_keys path fields) _ (λ _ _.
       passes_then is_read_write (checks.number 0 255 path (codes "block") fields) _ (λ block _.
-      passes_then is_read_write (sets_at blocks width path fields) _ (λ set given.
+      passes_then is_read_write (expressions_at blocks width path fields) _ (λ set given.
       passes_ok is_read_write (record { block = block; set = set }) (sets_fit path fields set given)))))
 
   writes_fit : (path : List ℕ) (fields : Members) → members_hold_words fields ≡ true

@@ -1,6 +1,6 @@
-pub mod Tables
-pub mod Reading
-pub mod Passing
+pub mod TableWords
+pub mod ReadWords
+pub mod CheckedWords
 pub mod CoreRanges
 pub mod KeyRanges
 pub mod ActuatorRanges

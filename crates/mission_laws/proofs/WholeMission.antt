@@ -7,8 +7,8 @@ use Rattle.toml.specs.Data.{Members}
 use Rattle.toml.specs.Parse.{parse_document}
 use Rattle.guards_model.specs.Missions.{MissionValue, IsMission}
 use Rattle.guards_model.proofs.BoolTests.{both}
-use Rattle.fault_text.specs.FaultTexts.{script_field}
-use Rattle.mission_checks.specs.Checks.{fails, required, only, table_in, document}
+use Rattle.fault_entries.specs.FaultTexts.{script_field}
+use Rattle.document_checks.specs.Checks.{fails, required, only, table_in, document}
 use Rattle.mission_text.specs.declared.core_fields.CoreFields.{CoreFields}
 use Rattle.mission_text.specs.Core.{core_at, rules_of}
 use Rattle.mission_text.specs.Blocks.{initial_field}
@@ -18,8 +18,8 @@ use Rattle.mission_text.specs.Sensors.{sensors_field}
 use Rattle.mission_text.specs.Actuators.{actuator_field}
 use Rattle.mission_text.specs.Mission.{document_keys, mission_after, mission_at, mission_of}
 use Rattle.mission_laws.specs.Integers.{members_hold_words}
-use Rattle.mission_laws.proofs.Reading.{document_holds}
-use Rattle.mission_laws.proofs.Passing.{Passes, passes_ok, passes_err, passes_if}
+use Rattle.mission_laws.proofs.ReadWords.{document_holds}
+use Rattle.mission_laws.proofs.CheckedWords.{Passes, passes_ok, passes_err, passes_if}
 use Rattle.mission_laws.proofs.CoreRanges.{CoreIn, core_in, core_parts}
 use Rattle.mission_laws.proofs.KeyRanges.{Gives, gives_then, outputs_in, table_in as whole_table_in, initial_in, sensors_in, script_in}
 use Rattle.mission_laws.proofs.ActuatorRanges.{actuator_in}

@@ -13,8 +13,6 @@ mod demos;
 #[cfg(test)]
 mod entry_rows;
 #[cfg(test)]
-mod fault_entries;
-#[cfg(test)]
 mod length_rows;
 #[cfg(test)]
 mod order_rows;
@@ -22,3 +20,5 @@ mod order_rows;
 mod output_rows;
 #[cfg(test)]
 mod program_rows;
+#[cfg(test)]
+mod script_rows;

@@ -4,18 +4,18 @@ use Rattle.std.specs.Io.KnownBytes.{Consumes}
 use Rattle.guards_io.specs.Causes.{Rose}
 use Rattle.guards_io.specs.Stream.{SourceView}
 use Rattle.guards_model.specs.Missions.{MissionValue}
-use Rattle.mission_checks.specs.declared.why.Why.{Why}
+use Rattle.document_checks.specs.declared.why.Why.{Why}
 use Rattle.guards_audit.specs.Consistency.{IsConsistent}
-use Rattle.recorded_run.specs.Marks.{mission_bytes}
+use Rattle.run_audit.specs.Marks.{mission_bytes}
 use Rattle.mission_text.specs.Mission.{mission_of}
 use Rattle.ideal_run.specs.Writes.{SinkView}
-use Rattle.mission_run.specs.declared.limit.TheConstants.{AUDIT_LIMIT, LIMIT}
+use Rattle.mission_run.specs.declared.limit.TheConstants.{MAX_AUDIT_BYTES, MAX_MISSION_BYTES}
 use Rattle.mission_run.specs.declared.status.Status.{Status}
 use Rattle.mission_run.specs.declared.status.Status.TheVariants.{Done, Usage, BadMission, TooLong, ReadFault, WriteFault, TooManyDisturbed, NoMemory, NotARun}
 use Rattle.mission_run.specs.Lines.{yes_line}
 use Rattle.mission_run.specs.Reading.{TakesUpTo, Tells}
 use Rattle.mission_run.specs.Auditing.{AuditsBytes, CompletesAudit, Judges}
-use Rattle.mission_run.proofs.Complete.{taken_all, taken_part}
+use Rattle.mission_run.proofs.MissionTold.{taken_all, taken_part}
 
 -- the line of a trace that is consistent is told as any text
 pub told_yes : (M : MissionValue) (trace : List ℕ) (old new : SinkView) (status : Status) → IsConsistent M trace → Tells yes_line old new status → Judges M trace old new status
@@ -30,25 +30,25 @@ told_yes M trace old new ReadFault good told = absurd told
 told_yes M trace old new (TooManyDisturbed cycle slot set active) good told = absurd told
 
 -- the bytes that were taken to the source's end are those that it told
-same_input : (src src' : SourceView) (taken input : List ℕ) → TakesUpTo AUDIT_LIMIT src src' taken → src.left ≡ Some input → taken ≡ input
+same_input : (src src' : SourceView) (taken input : List ℕ) → TakesUpTo MAX_AUDIT_BYTES src src' taken → src.left ≡ Some input → taken ≡ input
 same_input src src' taken input all told = taken_all src.left src'.left taken input told all.1.0 all.2
 
-module _ (src src' : SourceView) (out out' : SinkView) (input : List ℕ) (M : MissionValue) (told : src.left ≡ Some input) (within : length input ≤ AUDIT_LIMIT)
-    (fits : length (mission_bytes input) ≤ LIMIT) (is : mission_of (mission_bytes input) ≡ Ok M) where
+module _ (src src' : SourceView) (out out' : SinkView) (input : List ℕ) (M : MissionValue) (told : src.left ≡ Some input) (within : length input ≤ MAX_AUDIT_BYTES)
+    (fits : length (mission_bytes input) ≤ MAX_MISSION_BYTES) (is : mission_of (mission_bytes input) ≡ Ok M) where
   -- its mission's bytes are not too many
-  not_long : (taken : List ℕ) → TakesUpTo AUDIT_LIMIT src src' taken → LIMIT < length (mission_bytes taken) → ⊥
+  not_long : (taken : List ℕ) → TakesUpTo MAX_AUDIT_BYTES src src' taken → MAX_MISSION_BYTES < length (mission_bytes taken) → ⊥
   not_long taken all many =
       let same : length (mission_bytes taken) ≡ length (mission_bytes input) = ap (λ bytes. length (mission_bytes bytes)) (same_input src src' taken input all told) in
       omega (arith, same, many, fits)
 
   -- nor is it too long
-  not_over : (taken : List ℕ) → length taken ≡ AUDIT_LIMIT + 1 → Consumes src.left src'.left taken → ⊥
+  not_over : (taken : List ℕ) → length taken ≡ MAX_AUDIT_BYTES + 1 → Consumes src.left src'.left taken → ⊥
   not_over taken long taking =
       let le = taken_part src.left src'.left taken input told taking in
       omega (arith, le, long, within)
 
   -- nor are they no mission
-  not_bad : (taken : List ℕ) (why : Why) → TakesUpTo AUDIT_LIMIT src src' taken → mission_of (mission_bytes taken) ≡ Err why → ⊥
+  not_bad : (taken : List ℕ) (why : Why) → TakesUpTo MAX_AUDIT_BYTES src src' taken → mission_of (mission_bytes taken) ≡ Err why → ⊥
   not_bad taken why all refused =
       let denied : mission_of (mission_bytes input) ≡ Err why = ap (λ bytes. mission_of (mission_bytes bytes)) (sym (same_input src src' taken input all told)) ∙ refused in
       cc (sym is ∙ denied)

@@ -11,23 +11,23 @@ use Rattle.guards_model.specs.Texts.{StopValue}
 use Rattle.guards_runs.specs.Cycles.{cycles_before}
 use Rattle.guards_runs.specs.Disturbed.{stop_of}
 use Rattle.guards_runs.specs.ActedReport.{first_stop, stop_with}
-use Rattle.acted_runs.specs.Driving.{RunStopped}
-use Rattle.acted_runs.proofs.Ends.{this_stop}
+use Rattle.run_laws.specs.Driving.{RunStopped}
+use Rattle.run_laws.proofs.Ends.{this_stop}
 use Rattle.guards_world.specs.WorldCycle.{BusValue}
 use Rattle.demo_mission.specs.Demo.{demo_mission}
 use Rattle.mission_text.specs.Mission.{mission_of}
 use Rattle.ideal_run.specs.Writes.{SinkView}
 use Rattle.check_text.specs.Check.{check_of}
-use Rattle.command_words.specs.declared.command.Command.{Command}
-use Rattle.command_words.specs.declared.command.Command.TheVariants as command
-use Rattle.run_laws.specs.Runs.{Ran}
+use Rattle.command_line.specs.declared.command.Command.{Command}
+use Rattle.command_line.specs.declared.command.Command.TheVariants as command
+use Rattle.run_laws.specs.Runs.{HasCarried}
 use Rattle.world_run.specs.Running.{stop_value}
-use Rattle.mission_run.specs.declared.limit.TheConstants.{LIMIT}
+use Rattle.mission_run.specs.declared.limit.TheConstants.{MAX_MISSION_BYTES}
 use Rattle.mission_run.specs.declared.status.Status.{Status}
 use Rattle.mission_run.specs.declared.status.Status.TheVariants.{Done, Usage, BadMission, TooLong, ReadFault, WriteFault, TooManyDisturbed, NoMemory, NotARun}
 use Rattle.mission_run.specs.Reading.{OfMission, Tells}
 use Rattle.mission_run.specs.TopCall.{Outside, RunsMission, RunsMissionLast, RunsTold, RunsDemo, Serves, Outcome, CompletesCommand, Completes}
-use Rattle.mission_run.proofs.Complete.{refused_for_memory, same_mission, told_to_end}
+use Rattle.mission_run.proofs.MissionTold.{refused_for_memory, same_mission, told_to_end}
 use Rattle.mission_run.proofs.Audited.{audit_completes}
 use Rattle.mission_run.proofs.ByCommand.{by_command}
 
@@ -37,7 +37,7 @@ same_entries log K L h = sym (drop-append_seam log K) ∙ ap (drop (length log))
 
 module _ (may : List RuleValue → EntryValue → Type 0) (M : MissionValue) (bus bus' : BusValue) where
   -- a run whose entries stop in no cycle does not stop
-  not_stopped : (o : Option ActuatorValue) (K L : Log) (stop : StopValue) (histories : Histories) → Ran may M bus bus' K → RunStopped o M stop.cycle stop K histories → bus'.log ≡ bus.log ++ L → stop_with o M L ≡ None → ⊥
+  not_stopped : (o : Option ActuatorValue) (K L : Log) (stop : StopValue) (histories : Histories) → HasCarried may M bus bus' K → RunStopped o M stop.cycle stop K histories → bus'.log ≡ bus.log ++ L → stop_with o M L ≡ None → ⊥
   not_stopped o K L stop histories ran stopped grew goes_on =
       let same : K ≡ L = same_entries bus.log K L (sym ran.log ∙ grew) in
       let unstopped : stop_with o M K ≡ None = ap (stop_with o M) same ∙ goes_on in
@@ -97,7 +97,7 @@ module _ (may : List RuleValue → EntryValue → Type 0) (old new : Outside) (s
   served command.Check (went, kept) = λ bytes M told within is no_read no_write. by went bytes M told within is no_read no_write
     where
       by : OfMission (Unit {0}) (λ M. Tells (check_of M) old.sink new.sink status) old.source new.source old.sink new.sink status →
-          (bytes : List ℕ) (M : MissionValue) → old.source.left ≡ Some bytes → length bytes ≤ LIMIT → mission_of bytes ≡ Ok M →
+          (bytes : List ℕ) (M : MissionValue) → old.source.left ≡ Some bytes → length bytes ≤ MAX_MISSION_BYTES → mission_of bytes ≡ Ok M →
           (Rose old.source.faults new.source.faults → ⊥) → (Rose old.sink.faults new.sink.faults → ⊥) → (status ≡ Done) ⊎ (status ≡ NoMemory)
       by (inl refused) bytes M told within is no_read no_write = refused_for_memory old.source new.source old.sink new.sink status bytes M refused.0 told within is no_read
       by (inr ran) bytes M told within is no_read no_write = told_to_end (check_of ran.1) old.sink new.sink status ran.4 no_write

@@ -12,7 +12,7 @@ use Rattle.guards_model.specs.Missions.{ActuatorValue, MissionValue, IsMission, 
 use Rattle.guards_model.specs.Network.{EntryValue, Log, without_outputs}
 use Rattle.guards_model.specs.Rounds.{Histories}
 use Rattle.guards_model.specs.ScriptedBus.{IsScripted}
-use Rattle.guards_model.specs.Texts.{Part, StopValue, done_line, head_line, text_of}
+use Rattle.guards_model.specs.Texts.{Part, StopValue, done_line, head_line, text_of_parts}
 use Rattle.guards_model.proofs.BoolTests.{both}
 use Rattle.guards_runs.specs.Cycles.{Cycle, Past, cycles_before, cycle_at}
 use Rattle.guards_runs.specs.Disturbed.{disturbed_channels, first_of_two, halts, stop_in}
@@ -22,27 +22,27 @@ use Rattle.guards_runs.specs.Faultless.{IsFaultless, HasDue}
 use Rattle.guards_laws.proofs.LogGrows.{length-cycles_before}
 use Rattle.guards_laws.proofs.NoFaults.{faultless_slots}
 use Rattle.guards_world.specs.WorldCycle.{BusValue}
-use Rattle.ideal_laws.proofs.IdealReports.{report_is}
+use Rattle.script_laws.proofs.IdealReports.{report_is}
 use Rattle.ideal_run.specs.Writes.{SinkView}
 use Rattle.mission_laws.proofs.WholeMission.{read_missions}
-use Rattle.run_laws.specs.Runs.{Ran, RanCycles}
-use Rattle.acted_runs.specs.Acting.{ActedCycles}
-use Rattle.acted_runs.specs.Driving.{CyclesRan, RunStopped, told_text}
-use Rattle.acted_runs.proofs.Ends.{text_whole}
-use Rattle.acted_runs.proofs.Telling.{untraced_acted}
-use Rattle.acted_scripts.specs.ActedScripts.{StopsActing}
-use Rattle.acted_scripts.proofs.ActedLogs.{acted_by, acted_due, stop_due}
-use Rattle.output_laws.proofs.Charges.{uncharged_stop}
-use Rattle.ideal_laws.specs.ActedIdeal.{ideal_report_with}
-use Rattle.ideal_laws.proofs.ActedIdeals.{none_charged, whole_is}
-use Rattle.run_laws.proofs.Standing.{due_by, each_due, from_through}
+use Rattle.run_laws.specs.Runs.{HasCarried, HasRunCycles}
+use Rattle.run_laws.specs.Acting.{ActedCycles}
+use Rattle.run_laws.specs.Driving.{CyclesRan, RunStopped, told_text}
+use Rattle.run_laws.proofs.Ends.{text_whole}
+use Rattle.run_laws.proofs.DrivenTold.{untraced_acted}
+use Rattle.run_laws.specs.ActedScripts.{StopsActing}
+use Rattle.run_laws.proofs.ActedLogs.{acted_by, acted_due, stop_due}
+use Rattle.script_laws.proofs.OutputCharges.{uncharged_stop}
+use Rattle.script_laws.specs.ActedIdeal.{ideal_report_with}
+use Rattle.script_laws.proofs.ActedIdeals.{none_charged, whole_is}
+use Rattle.run_laws.proofs.RunContinues.{due_by, each_due, from_through}
 use Rattle.world_run.specs.Running.{stop_value}
-use Rattle.command_words.specs.declared.command.Command.{Command}
-use Rattle.command_words.specs.declared.command.Command.TheVariants as command
+use Rattle.command_line.specs.declared.command.Command.{Command}
+use Rattle.command_line.specs.declared.command.Command.TheVariants as command
 use Rattle.mission_run.specs.declared.status.Status.{Status}
 use Rattle.mission_run.specs.declared.status.Status.TheVariants.{Done, Usage, BadMission, TooLong, ReadFault, WriteFault, TooManyDisturbed, NoMemory, NotARun}
 use Rattle.mission_run.specs.TopCall.{Outside, RunsMission, RunsMissionLast, RunsTold, Serves, Outcome, DoesScript, HasNoFaults, TellsIdeal, RunsIdeal, EndsWell}
-use Rattle.mission_run.proofs.Complete.{refused_for_memory, same_mission}
+use Rattle.mission_run.proofs.MissionTold.{refused_for_memory, same_mission}
 use Rattle.mission_run.proofs.ByCommand.{by_command}
 use Rattle.mission_run.proofs.Repeating.{scripted, stopped_acting, refused_repeats}
 
@@ -64,18 +64,18 @@ none_is_some : {x : StopValue} → None ≡ Some x → ⊥
 none_is_some h = cc
 
 module _ (may : List RuleValue → EntryValue → Type 0) (does : DoesScript may) (M : MissionValue) (mission : IsMission M) (none : HasNoFaults M) (bus bus' : BusValue) where
-  script_of : (L : Log) (histories : Histories) → Ran may M bus bus' L → AllByRecursion (IsScripted (bus_rules M)) L
+  script_of : (L : Log) (histories : Histories) → HasCarried may M bus bus' L → AllByRecursion (IsScripted (bus_rules M)) L
   script_of L histories ran = scripted may does M bus bus' L histories ran
 
-  faultless : (L : Log) (histories : Histories) → Ran may M bus bus' L → IsFaultless M L
+  faultless : (L : Log) (histories : Histories) → HasCarried may M bus bus' L → IsFaultless M L
   faultless L histories ran = record { harmless = none; scripted = script_of L histories ran }
 
   -- the entries of the nine slots alone
-  nine_faultless : (L : Log) (histories : Histories) → Ran may M bus bus' L → IsFaultless M (without_outputs L)
+  nine_faultless : (L : Log) (histories : Histories) → HasCarried may M bus bus' L → IsFaultless M (without_outputs L)
   nine_faultless L histories ran =
       record { harmless = none; scripted = All-filter (IsScripted (bus_rules M)) (λ (y : EntryValue). on_bus y.slot) L (script_of L histories ran) }
 
-  has_due : (L : Log) (histories : Histories) → RanCycles M M.cycles L histories → HasDue M L M.cycles
+  has_due : (L : Log) (histories : Histories) → HasRunCycles M M.cycles L histories → HasDue M L M.cycles
   has_due L histories cycles = record {
     before = L;
     later = [];
@@ -98,7 +98,7 @@ module _ (may : List RuleValue → EntryValue → Type 0) (does : DoesScript may
   nine_unstopped L n early calm due slot on =
       subst (λ c. halts c (cycle_at M L n) slot ≡ false) (length-cycles_before M L n) (faultless_slots M L n slot mission early calm due on)
 
-  not_stopped : (o : Option ActuatorValue) (L : Log) (stop : StopValue) (histories : Histories) → Ran may M bus bus' L → RunStopped o M stop.cycle stop L histories → ⊥
+  not_stopped : (o : Option ActuatorValue) (L : Log) (stop : StopValue) (histories : Histories) → HasCarried may M bus bus' L → RunStopped o M stop.cycle stop L histories → ⊥
   not_stopped None L stop histories ran to =
       let n = stop.cycle in
       let past : Past = cycles_before M L n in
@@ -129,15 +129,15 @@ module _ (may : List RuleValue → EntryValue → Type 0) (does : DoesScript may
 
   module _ (out out' : SinkView) where
     -- the text of a whole run, with an actuator or without one
-    text_is : (o : Option ActuatorValue) (L : Log) (histories : Histories) → Ran may M bus bus' L → CyclesRan o M M.cycles L histories → told_text o false M L histories ≡ ideal_report_with o M
+    text_is : (o : Option ActuatorValue) (L : Log) (histories : Histories) → HasCarried may M bus bus' L → CyclesRan o M M.cycles L histories → told_text o false M L histories ≡ ideal_report_with o M
     text_is None L histories ran cycles = report_is M L mission (faultless L histories ran) (has_due L histories cycles)
     text_is (Some a) L histories ran cycles =
         let K = without_outputs L in
         text_whole M L histories false (Some a) cycles
-        ∙ ap (λ (parts : List Part). text_of ((head_line M.rules.channels M.cycles ∷ []) ∷ parts) ++ done_line M.cycles) (untraced_acted M a L histories [] (cycles_before M K M.cycles))
+        ∙ ap (λ (parts : List Part). text_of_parts ((head_line M.rules.channels M.cycles ∷ []) ∷ parts) ++ done_line M.cycles) (untraced_acted M a L histories [] (cycles_before M K M.cycles))
         ∙ whole_is M a L K mission (nine_faultless L histories ran) cycles.ideal (acted_has_due a L histories cycles)
 
-    tells_ideal : (trace : Bool) (L : Log) (histories : Histories) → Ran may M bus bus' L → CyclesRan M.actuator M M.cycles L histories → Appends out.written out'.written (told_text M.actuator trace M L histories) →
+    tells_ideal : (trace : Bool) (L : Log) (histories : Histories) → HasCarried may M bus bus' L → CyclesRan M.actuator M M.cycles L histories → Appends out.written out'.written (told_text M.actuator trace M L histories) →
         TellsIdeal None trace M out out'
     tells_ideal true L histories ran cycles wrote = tt
     tells_ideal false L histories ran cycles wrote = subst (Appends out.written out'.written) (text_is M.actuator L histories ran cycles) wrote

@@ -9,7 +9,7 @@ use Rattle.guards_model.specs.Missions.{ActuatorValue, MissionValue, bus_rules}
 use Rattle.guards_model.specs.Network.{EntryValue, Log, without_outputs}
 use Rattle.guards_model.specs.Rounds.{Histories}
 use Rattle.guards_model.specs.ScriptedBus.{IsScripted}
-use Rattle.guards_model.specs.Texts.{Part, TextValue, StopValue, stop_line, text_of}
+use Rattle.guards_model.specs.Texts.{Part, TextValue, StopValue, stop_line, text_of_parts}
 use Rattle.guards_model.proofs.Membership.{All-weaker}
 use Rattle.guards_runs.specs.Cycles.{cycles_before, cycle_at}
 use Rattle.guards_runs.specs.Due.{IsDue, carries_through}
@@ -19,27 +19,27 @@ use Rattle.guards_laws.proofs.LogGrows.{length-cycles_before}
 use Rattle.script_laws.specs.Scripts.{ForgesNoSweep, StopsAt, IsScriptedRun}
 use Rattle.script_laws.proofs.Reports.{stops_alike, parts_alike, reports_alike}
 use Rattle.guards_world.specs.WorldCycle.{BusValue}
-use Rattle.run_laws.specs.Runs.{Ran, shortened, with_unfinished}
-use Rattle.acted_runs.specs.Acting.{ActedToStop}
-use Rattle.acted_runs.specs.Driving.{CyclesRan, RunStopped}
-use Rattle.acted_runs.proofs.Ends.{short_untraced, text_untraced, this_stop, whole_stop}
-use Rattle.acted_scripts.specs.ActedScripts.{IsActedRun, IsScriptedWith, StopsActing}
-use Rattle.acted_scripts.proofs.ActedLogs.{acted_by}
-use Rattle.acted_scripts.proofs.ActedEnds.{reports_alike as acted_reports_alike, run_parts_alike, stops_alike as acted_stops_alike}
+use Rattle.run_laws.specs.Runs.{HasCarried, shortened, with_unfinished}
+use Rattle.run_laws.specs.Acting.{ActedToStop}
+use Rattle.run_laws.specs.Driving.{CyclesRan, RunStopped}
+use Rattle.run_laws.proofs.Ends.{short_untraced, text_untraced, this_stop, whole_stop}
+use Rattle.run_laws.specs.ActedScripts.{IsActedRun, IsScriptedWith, StopsActing}
+use Rattle.run_laws.proofs.ActedLogs.{acted_by}
+use Rattle.run_laws.proofs.ActedEnds.{reports_alike as acted_reports_alike, run_parts_alike, stops_alike as acted_stops_alike}
 use Rattle.run_laws.specs.Summaries.{summary}
-use Rattle.run_laws.proofs.Standing.{due_by, each_due}
-use Rattle.world_run.specs.Running.{stop_value, Refuses, EndsWith}
+use Rattle.run_laws.proofs.RunContinues.{due_by, each_due}
+use Rattle.world_run.specs.Running.{stop_value, WritesLine, EndsWith}
 use Rattle.ideal_run.specs.Writes.{SinkView}
 use Rattle.demo_mission.specs.Demo.{demo_mission}
 use Rattle.demo_mission.proofs.IsDemo.{demo_rules_lose}
-use Rattle.command_words.specs.declared.command.Command.{Command}
-use Rattle.command_words.specs.declared.command.Command.TheVariants as command
+use Rattle.command_line.specs.declared.command.Command.{Command}
+use Rattle.command_line.specs.declared.command.Command.TheVariants as command
 use Rattle.mission_run.specs.declared.status.Status.{Status}
 use Rattle.mission_run.specs.declared.status.Status.TheVariants.{Done, Usage, BadMission, TooLong, ReadFault, WriteFault, TooManyDisturbed, NoMemory, NotARun}
 use Rattle.mission_run.specs.Reading.{RefusesBytes}
 use Rattle.guards_io.specs.Stream.{SourceView}
 use Rattle.mission_run.specs.TopCall.{Outside, RunsMission, RunsMissionLast, RunsTold, RunsDemo, Serves, Outcome, DoesScript, status_of_end, text_or_stop, demo_text, told_report, TellsAsAny, RepeatsCommand, Repeats}
-use Rattle.mission_run.proofs.Complete.{refused_for_memory, same_mission}
+use Rattle.mission_run.proofs.MissionTold.{refused_for_memory, same_mission}
 use Rattle.mission_run.proofs.ByCommand.{by_command}
 use Rattle.mission_run.proofs.DemoTexts.{demo_texts_alike}
 
@@ -63,7 +63,7 @@ stopped_acting M a L stop histories to =
       stopped = to.stopped;
     }
 
-module _ (may : List RuleValue → EntryValue → Type 0) (does : DoesScript may) (M : MissionValue) (bus bus' : BusValue) (L : Log) (histories : Histories) (ran : Ran may M bus bus' L) where
+module _ (may : List RuleValue → EntryValue → Type 0) (does : DoesScript may) (M : MissionValue) (bus bus' : BusValue) (L : Log) (histories : Histories) (ran : HasCarried may M bus bus' L) where
   pub scripted : AllByRecursion (IsScripted (bus_rules M)) L
   scripted = All-weaker (may (bus_rules M)) (IsScripted (bus_rules M)) L (does (bus_rules M)) ran.each
 
@@ -116,11 +116,11 @@ module _ (may : List RuleValue → EntryValue → Type 0) (does : DoesScript may
     ),
   )
 
-  told_whole : (L : Log) (histories : Histories) → Ran may M bus bus' L → CyclesRan o M M.cycles L histories → Appends out.written out'.written (text M L) → TellsAsAny o text M bus bus' out out' Done
+  told_whole : (L : Log) (histories : Histories) → HasCarried may M bus bus' L → CyclesRan o M M.cycles L histories → Appends out.written out'.written (text M L) → TellsAsAny o text M bus bus' out out' Done
   told_whole L histories ran cycles wrote =
       tells L Done ran.log (whole_ends may does M bus bus' L histories ran o cycles) (sym (ap status_of_end (whole_stop M L histories o cycles))) wrote
 
-  told_stop : (L : Log) (stop : StopValue) (histories : Histories) → Ran may M bus bus' L → RunStopped o M stop.cycle stop L histories → Appends out.written out'.written (text M L) →
+  told_stop : (L : Log) (stop : StopValue) (histories : Histories) → HasCarried may M bus bus' L → RunStopped o M stop.cycle stop L histories → Appends out.written out'.written (text M L) →
       TellsAsAny o text M bus bus' out out' (TooManyDisturbed stop.cycle stop.slot stop.set stop.active)
   told_stop L stop histories ran to wrote =
       tells L (TooManyDisturbed stop.cycle stop.slot stop.set stop.active) ran.log (stop_ends may does M bus bus' L histories ran o stop to)
@@ -130,8 +130,8 @@ module _ (may : List RuleValue → EntryValue → Type 0) (does : DoesScript may
 report_alike : (o : Option ActuatorValue) (last : Option ℕ) (M : MissionValue) (L K : Log) → ForgesNoSweep (bus_rules M) → IsScriptedWith o M L → IsScriptedWith o M K → told_report o last M L ≡ told_report o last M K
 report_alike None None M L K none run_l run_k = reports_alike M L K none run_l run_k
 report_alike (Some a) None M L K none run_l run_k = acted_reports_alike M L K none run_l run_k a
-report_alike None (Some k) M L K none run_l run_k = ap (λ (parts : List Part). text_of (shortened k parts)) (parts_alike M L K none run_l run_k)
-report_alike (Some a) (Some k) M L K none run_l run_k = ap (λ (parts : List Part). text_of (shortened k parts)) (run_parts_alike M L K none run_l run_k a)
+report_alike None (Some k) M L K none run_l run_k = ap (λ (parts : List Part). text_of_parts (shortened k parts)) (parts_alike M L K none run_l run_k)
+report_alike (Some a) (Some k) M L K none run_l run_k = ap (λ (parts : List Part). text_of_parts (shortened k parts)) (run_parts_alike M L K none run_l run_k a)
 
 module _ (may : List RuleValue → EntryValue → Type 0) (does : DoesScript may) (bus bus' : BusValue) (out out' : SinkView) (no_write : Rose out.faults out'.faults → ⊥) where
   -- ---- `run`
@@ -169,7 +169,7 @@ module _ (may : List RuleValue → EntryValue → Type 0) (does : DoesScript may
       short_alike : (L K : Log) → IsScriptedWith o M L → IsScriptedWith o M K → short_report M L ≡ short_report M K
       short_alike L K run_l run_k = report_alike o (Some k) M L K none run_l run_k
 
-      line_ended : (text : TextValue) → Refuses out out' text → Appends out.written out'.written text
+      line_ended : (text : TextValue) → WritesLine out out' text → Appends out.written out'.written text
       line_ended text (inl all) = all.0
       line_ended text (inr front) = absurd (no_write front.1)
 
@@ -205,7 +205,7 @@ module _ (may : List RuleValue → EntryValue → Type 0) (does : DoesScript may
     demo_text_alike : (L K : Log) → IsScriptedRun D L → IsScriptedRun D K → demo_text number D L ≡ demo_text number D K
     demo_text_alike L K run_l run_k = demo_texts_alike number D forges_none L K run_l run_k
 
-    line_written : (stop : StopValue) → Refuses out out' (stop_line stop) → Appends out.written out'.written (stop_line stop)
+    line_written : (stop : StopValue) → WritesLine out out' (stop_line stop) → Appends out.written out'.written (stop_line stop)
     line_written stop (inl all) = all.0
     line_written stop (inr front) = absurd (no_write front.1)
 

@@ -8,18 +8,18 @@ use Rattle.guards_world.specs.WorldCycle.{BusValue}
 use Rattle.demo_mission.specs.Demo.{demo_mission}
 use Rattle.ideal_run.specs.Writes.{SinkView}
 use Rattle.ideal_run.specs.declared.output.WriteStop.TheVariants as write
-use Rattle.run_laws.specs.Runs.{Ran}
-use Rattle.run_laws.proofs.Passing.{begins, ran_short}
+use Rattle.run_laws.specs.Runs.{HasCarried}
+use Rattle.run_laws.proofs.RunPassed.{begins, ran_short}
 use Rattle.guards_world.specs.Worlds.{first_world}
-use Rattle.acted_runs.specs.Driving.{first_gate}
-use Rattle.acted_runs.proofs.Driving.{mission_begins}
+use Rattle.run_laws.specs.Driving.{first_gate}
+use Rattle.run_laws.proofs.Driving.{mission_begins}
 use Rattle.world_run.specs.declared.stop.RunStop.{RunStop}
 use Rattle.world_run.specs.declared.stop.RunStop.TheVariants as stop
 use Rattle.world_run.specs.Running.{Runs, bus_value}
 use Rattle.world_run.specs.Keeping.{RunsLast}
 use Rattle.world_run.specs.Tallying.{Summarizes}
 use Rattle.world_run.proofs.Keepings.{not_begun as not_begun_last}
-use Rattle.world_run.proofs.Steps.{head_done}
+use Rattle.world_run.proofs.RunSteps.{head_done}
 use Rattle.mission_run.specs.TopCall.{RunsMission, RunsMissionLast, RunsBy, RunsTold, RunsDemo, status_of}
 
 -- what holds of an answer that is no error
@@ -35,7 +35,7 @@ pub same_bus : (log log' : Log) (script script' : List RuleValue) → log' ≡ l
 same_bus log log' script script' logs scripts = ap (λ l. bus_value l script') logs ∙ ap (bus_value log) scripts
 
 module _ (may : List RuleValue → EntryValue → Type 0) (M : MissionValue) (bus loaded : BusValue) (same : loaded.log ≡ bus.log) where
-  moved : (after : BusValue) (L : Log) → Ran may M loaded after L → Ran may M bus after L
+  moved : (after : BusValue) (L : Log) → HasCarried may M loaded after L → HasCarried may M bus after L
   moved after L ran = record { log = ran.log ∙ ap (λ log. log ++ L) same; script = ran.script; each = ran.each }
 
   pub run_from : (trace : Bool) (after : BusValue) (out out' : SinkView) (r : Result (Unit {0}) RunStop) → Runs may trace M M.actuator loaded after out out' r → RunsMission may trace M bus after out out' (status_of r)

@@ -1,9 +1,9 @@
 -- The lines of refusals.
 use Rattle.std.specs.Prelude.{ℕ, List, [], ◌++◌, codes, Option, None, Some}
 use Rattle.std.specs.Fmt.{decimal}
-use Rattle.mission_checks.specs.declared.why.Cause.{Cause}
-use Rattle.mission_checks.specs.declared.why.Cause.TheVariants as cause
-use Rattle.mission_checks.specs.declared.why.Why.{Why}
+use Rattle.document_checks.specs.declared.why.Cause.{Cause}
+use Rattle.document_checks.specs.declared.why.Cause.TheVariants as cause
+use Rattle.document_checks.specs.declared.why.Why.{Why}
 
 abbrev pub cause_name : Cause → List ℕ
 cause_name cause.NotToml = codes "not-toml"

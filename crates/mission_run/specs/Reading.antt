@@ -3,42 +3,42 @@ use Rattle.std.specs.Prelude.{◌≡◌, ◌≤◌, ◌+◌, ◌⊎◌, ℕ, Lis
 use Rattle.std.specs.Io.KnownBytes.{Appends, Consumes, IsAtEnd}
 use Rattle.guards_io.specs.Causes.{Rose}
 use Rattle.guards_model.specs.Missions.{MissionValue}
-use Rattle.mission_checks.specs.declared.why.ReadFault.{ReadFault as Fault}
-use Rattle.mission_checks.specs.declared.why.ReadFault.TheVariants as fault
+use Rattle.document_checks.specs.declared.why.ReadFault.{ReadFault as Fault}
+use Rattle.document_checks.specs.declared.why.ReadFault.TheVariants as fault
 use Rattle.mission_text.specs.Mission.{mission_of}
 use Rattle.ideal_run.specs.Writes.{SinkView, AppendsPart, AppendsFront}
 use Rattle.check_text.specs.Check.{check_of}
-use Rattle.world_run.specs.Running.{Refuses}
-use Rattle.mission_run.specs.declared.limit.TheConstants.{LIMIT}
+use Rattle.world_run.specs.Running.{WritesLine}
+use Rattle.mission_run.specs.declared.limit.TheConstants.{MAX_MISSION_BYTES}
 use Rattle.mission_run.specs.declared.status.Status.{Status}
 use Rattle.mission_run.specs.declared.status.Status.TheVariants.{Done, Usage, BadMission, TooLong, ReadFault, WriteFault, TooManyDisturbed, NoMemory, NotARun}
 use Rattle.mission_run.specs.Lines.{mission_line, long_line, read_line}
 use Rattle.guards_io.specs.Stream.{SourceView}
 
 -- The bytes were taken, and no fault came.
-abbrev pub Takes : SourceView → SourceView → List ℕ → Type 0
-Takes old new bytes = Consumes old.left new.left bytes × (new.faults ≡ old.faults)
+abbrev pub TakesBytes : SourceView → SourceView → List ℕ → Type 0
+TakesBytes old new bytes = Consumes old.left new.left bytes × (new.faults ≡ old.faults)
 
 -- The bytes are all that the source had left, and no more than so many.
 abbrev pub TakesUpTo : ℕ → SourceView → SourceView → List ℕ → Type 0
-TakesUpTo limit old new bytes = (length bytes ≤ limit) × Takes old new bytes × IsAtEnd new.left
+TakesUpTo limit old new bytes = (length bytes ≤ limit) × TakesBytes old new bytes × IsAtEnd new.left
 
 -- The bytes are all that the source had left, and no more than a mission has.
 abbrev pub TakesAll : SourceView → SourceView → List ℕ → Type 0
-TakesAll old new bytes = TakesUpTo LIMIT old new bytes
+TakesAll old new bytes = TakesUpTo MAX_MISSION_BYTES old new bytes
 
 -- What refusing what a source gives does, by the status.
 abbrev pub RefusesBytes : SourceView → SourceView → SinkView → SinkView → Status → Type 0
 -- exactly where the source was read to its end and the bytes are no mission
 RefusesBytes src src' out out' (BadMission why) =
-    (bytes : List ℕ) × TakesAll src src' bytes × (mission_of bytes ≡ Err why) × Refuses out out' (mission_line why)
+    (bytes : List ℕ) × TakesAll src src' bytes × (mission_of bytes ≡ Err why) × WritesLine out out' (mission_line why)
 -- exactly where the source gave one byte more than a mission has
-RefusesBytes src src' out out' TooLong = (bytes : List ℕ) × (length bytes ≡ LIMIT + 1) × Takes src src' bytes × Refuses out out' long_line
+RefusesBytes src src' out out' TooLong = (bytes : List ℕ) × (length bytes ≡ MAX_MISSION_BYTES + 1) × TakesBytes src src' bytes × WritesLine out out' long_line
 -- only where the source's faults rose, and before the end of what is read
 RefusesBytes src src' out out' ReadFault =
-    (bytes : List ℕ) × (length bytes ≤ LIMIT) × Consumes src.left src'.left bytes × Rose src.faults src'.faults × Refuses out out' read_line
+    (bytes : List ℕ) × (length bytes ≤ MAX_MISSION_BYTES) × Consumes src.left src'.left bytes × Rose src.faults src'.faults × WritesLine out out' read_line
 -- while the source is read, at the latest with the byte that is too many, or once it is read; no fault came
-RefusesBytes src src' out out' NoMemory = (bytes : List ℕ) × (length bytes ≤ LIMIT + 1) × Takes src src' bytes × (out' ≡ out)
+RefusesBytes src src' out out' NoMemory = (bytes : List ℕ) × (length bytes ≤ MAX_MISSION_BYTES + 1) × TakesBytes src src' bytes × (out' ≡ out)
 RefusesBytes src src' out out' Done = ⊥
 RefusesBytes src src' out out' Usage = ⊥
 RefusesBytes src src' out out' WriteFault = ⊥
@@ -59,7 +59,7 @@ OfMission Kept goes_on src src' out out' status =
 
 -- what refusing a mission answers
 abbrev pub RefusesMission : Fault → SinkView → SinkView → Status → Type 0
-RefusesMission (fault.Bad given) old new (BadMission why) = (why ≡ given) × Refuses old new (mission_line why)
+RefusesMission (fault.Bad given) old new (BadMission why) = (why ≡ given) × WritesLine old new (mission_line why)
 RefusesMission given old new NoMemory = new ≡ old
 RefusesMission given old new _ = ⊥
 
@@ -79,5 +79,5 @@ ChecksBytes src src' out out' status = OfMission (Unit {0}) (λ M. Tells (check_
 -- A mission that the source tells is told to its end, unless memory runs out or a fault comes.
 abbrev pub CompletesCheck : SourceView → SourceView → SinkView → SinkView → Status → Type 0
 CompletesCheck src src' out out' status =
-    (bytes : List ℕ) (M : MissionValue) → src.left ≡ Some bytes → length bytes ≤ LIMIT → mission_of bytes ≡ Ok M →
+    (bytes : List ℕ) (M : MissionValue) → src.left ≡ Some bytes → length bytes ≤ MAX_MISSION_BYTES → mission_of bytes ≡ Ok M →
     (Rose src.faults src'.faults → ⊥) → (Rose out.faults out'.faults → ⊥) → (status ≡ Done) ⊎ (status ≡ NoMemory)

@@ -6,7 +6,7 @@ ghost use Rattle.mission_run.specs.Auditing.{AuditsBytes, CompletesAudit, Judges
 ghost use Rattle.run_audit.specs.Answers.{IsVerdict};
 ghost use Rattle.std.specs.Prelude.{List, ℕ};
 
-use crate::limit::{AUDIT_LIMIT, LIMIT};
+use crate::limit::{MAX_AUDIT_BYTES, MAX_MISSION_BYTES};
 use crate::lines::{long_line, no_line, read_line, yes_line};
 use crate::reading::{refuse_mission, told};
 use crate::status::Status;
@@ -15,10 +15,9 @@ use ideal_run::put;
 use mission_text::read;
 use mission_type::Mission;
 use native_calls::Calls;
-use recorded_run::split_run;
-use run_audit::{Verdict, audit};
+use run_audit::{Verdict, audit, split_run};
 use std::alloc::Global;
-use world_run::refuse;
+use world_run::put_line;
 
 /// Writes the line of a trace that is not consistent.
 fn say_no<K: Sink>(alloc: Global, line: u32, out: &mut K) -> Status
@@ -28,7 +27,7 @@ fn say_no<K: Sink>(alloc: Global, line: u32, out: &mut K) -> Status
 {
     match no_line(alloc, line) {
         Ok(text) => {
-            refuse(out, &text);
+            put_line(out, &text);
             Status::NotARun(line)
         }
         Err(_) => Status::NoMemory,
@@ -70,8 +69,8 @@ fn judge_input<K: Sink, C: Calls>(alloc: Global, input: &[u8], out: &mut K, nati
         (sink_view (K.written out.new) (K.faults out.new)) result }
 {
     let (mission, trace) = split_run(input);
-    if mission.len() > LIMIT {
-        refuse(out, long_line());
+    if mission.len() > MAX_MISSION_BYTES {
+        put_line(out, long_line());
         return Status::TooLong;
     }
     match read(alloc, mission) {
@@ -92,14 +91,14 @@ fn audit_read<S: Source, K: Sink, C: Calls>(
         (sink_view (K.written out.old) (K.faults out.old))
         (sink_view (K.written out.new) (K.faults out.new)) result }
 {
-    match read_all(alloc, src, AUDIT_LIMIT) {
+    match read_all(alloc, src, MAX_AUDIT_BYTES) {
         Ok(bytes) => judge_input(alloc, bytes.as_slice(), out, natives),
         Err(ReadStop::Failed) => {
-            refuse(out, read_line());
+            put_line(out, read_line());
             Status::ReadFault
         }
         Err(ReadStop::TooLong) => {
-            refuse(out, long_line());
+            put_line(out, long_line());
             Status::TooLong
         }
         Err(ReadStop::Memory) => Status::NoMemory,

@@ -1,6 +1,6 @@
 //! Writes the text of the command `check`.
 ghost use Rattle.std.specs.Prelude.{◌≡◌, ◌<◌, length};
-ghost use Rattle.task_table.specs.Tables.{row_at};
+ghost use Rattle.task_table.specs.Tables.{tasks_in_row};
 ghost use Rattle.check_text.specs.Check.{check_of, head_text, row_text, texts_from};
 ghost use Rattle.ideal_run.specs.Writes.{Writes, sink_view};
 
@@ -28,7 +28,7 @@ fn put_head<K: Sink>(alloc: Global, mission: &Mission, out: &mut K) -> Result<()
 fn put_row<K: Sink>(alloc: Global, table: &Table, row: u16, out: &mut K) -> Result<(), WriteStop>
     requires { row < length table.now.rows }
     ensures { Writes (sink_view (K.written out.old) (K.faults out.old))
-        (sink_view (K.written out.new) (K.faults out.new)) (row_text row (row_at table.now.rows row)) result }
+        (sink_view (K.written out.new) (K.faults out.new)) (row_text row (tasks_in_row table.now.rows row)) result }
 {
     let Ok(text) = row_text(alloc, table, row) else {
         return Err(WriteStop::Memory);

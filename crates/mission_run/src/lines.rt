@@ -2,7 +2,7 @@
 ghost use Rattle.std.specs.Prelude.{◌≡◌, string_bytes, IfOk};
 ghost use Rattle.mission_run.specs.Lines.{cause_name, long_line, mission_line, no_line, place_text, read_line, usage_line, yes_line};
 
-use mission_checks::{Cause, Why};
+use document_checks::{Cause, Why};
 use std::alloc::{AllocError, Global};
 
 fn cause_name(cause: Cause) -> &'static str

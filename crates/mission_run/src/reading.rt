@@ -6,16 +6,16 @@ ghost use Rattle.guards_io.specs.Stream.{source_view};
 ghost use Rattle.std.specs.Prelude.{List, ℕ};
 
 use crate::check::write_check;
-use crate::limit::LIMIT;
+use crate::limit::MAX_MISSION_BYTES;
 use crate::lines::{long_line, mission_line, read_line};
 use crate::status::Status;
+use document_checks::ReadFault;
 use guards_io::{ReadStop, Sink, Source, read_all};
 use ideal_run::WriteStop;
-use mission_checks::ReadFault;
 use mission_text::read;
 use mission_type::Mission;
 use std::alloc::Global;
-use world_run::refuse;
+use world_run::put_line;
 
 /// Writes the line of bytes that are no mission.
 pub(crate) fn refuse_mission<K: Sink>(alloc: Global, out: &mut K, fault: ReadFault) -> Status
@@ -27,7 +27,7 @@ pub(crate) fn refuse_mission<K: Sink>(alloc: Global, out: &mut K, fault: ReadFau
     };
     match mission_line(alloc, &why) {
         Ok(line) => {
-            refuse(out, &line);
+            put_line(out, &line);
             Status::BadMission(why)
         }
         Err(_) => Status::NoMemory,
@@ -46,14 +46,14 @@ pub fn read_mission<S: Source, K: Sink>(
         (sink_view (K.written out.old) (K.faults out.old))
         (sink_view (K.written out.new) (K.faults out.new)) result }
 {
-    let bytes = match read_all(alloc, src, LIMIT) {
+    let bytes = match read_all(alloc, src, MAX_MISSION_BYTES) {
         Ok(bytes) => bytes,
         Err(ReadStop::Failed) => {
-            refuse(out, read_line());
+            put_line(out, read_line());
             return Err(Status::ReadFault);
         }
         Err(ReadStop::TooLong) => {
-            refuse(out, long_line());
+            put_line(out, long_line());
             return Err(Status::TooLong);
         }
         Err(ReadStop::Memory) => return Err(Status::NoMemory),

@@ -2,9 +2,9 @@
 ghost use Rattle.std.specs.Prelude.{◌≡◌};
 ghost use Rattle.mission_run.specs.Statuses.{status_code};
 
+use document_checks::Why;
 use guards_base::ChanSet;
 use guards_model::Slot;
-use mission_checks::Why;
 
 /// What came of a command.
 #[derive(Debug, Drop)]

@@ -8,7 +8,7 @@ use Rattle.guards_model.specs.Contexts.{ContextValue}
 use Rattle.guards_model.specs.Faults.{FaultValue}
 use Rattle.guards_model.specs.Missions.{MissionValue, within, is_rules, is_context, is_table, is_sensors, is_actuator, IsMission}
 use Rattle.task_table.specs.Tables.{TableValue}
-use Rattle.fault_text.specs.Entries.{FitsSizes}
+use Rattle.fault_entries.specs.Entries.{FitsSizes}
 use Rattle.mission_type.specs.Parts.{AreParts, DrivesForward, actuator_of, mission_with, in_use}
 use Rattle.mission_type.specs.declared.mission.Actuator.{Actuator}
 use Rattle.mission_text.specs.declared.core_fields.CoreFields.{CoreFields}

@@ -9,7 +9,7 @@ use Rattle.guards_base.specs.Padding.{padded}
 use Rattle.guards_base.specs.Seen.{Seen}
 use Rattle.guards_model.specs.Missions.{is_sensors, within}
 use Rattle.mission_type.specs.Parts.{in_use, rows_of}
-use Rattle.mission_text.specs.Sensors.{row_of, are_sensor_words, is_sensor_row, is_zero, are_places, is_row_of_places}
+use Rattle.mission_text.specs.Sensors.{sensor_row, are_sensor_words, is_sensor_row, is_zero, are_places, is_row_of_places}
 
 all_parts : {A : Type 0} (p q : A → Bool) (xs : List A) → list_all (λ x. p x && q x) xs ≡ true → (list_all p xs ≡ true) × (list_all q xs ≡ true)
 all_parts p q [] all = (refl, refl)
@@ -22,18 +22,18 @@ all_parts p q (x ∷ xs) all =
 -- a row of so many channels, each of which has its words and zeros
 pub row_holds : (channels width : ℕ) (row : Seen (List ℤ)) → length row.items ≡ channels
     → list_all (λ places. are_sensor_words width (take width places) && are_places width places) row.items ≡ true
-    → (is_sensor_row channels width (row_of width row) && is_row_of_places width row) ≡ true
+    → (is_sensor_row channels width (sensor_row width row) && is_row_of_places width row) ≡ true
 row_holds channels width row count all =
     let parts = all_parts (λ places. are_sensor_words width (take width places)) (are_places width) row.items all in
     rw (length-map row.items (take width), eq-eqb (length row.items) channels count, list_all-map (are_sensor_words width) (take width) row.items, parts.0, parts.1) refl
 
 -- 1 to 64 such rows
 pub rows_hold : (channels width : ℕ) (rows : List (Seen (List ℤ))) → within 1 64 (length rows) ≡ true
-    → list_all (λ row. is_sensor_row channels width (row_of width row) && is_row_of_places width row) rows ≡ true
+    → list_all (λ row. is_sensor_row channels width (sensor_row width row) && is_row_of_places width row) rows ≡ true
     → (is_sensors channels width (in_use width rows) && list_all (is_row_of_places width) rows) ≡ true
 rows_hold channels width rows count all =
-    let parts = all_parts (λ row. is_sensor_row channels width (row_of width row)) (is_row_of_places width) rows all in
-    rw (length-map rows (row_of width), count, list_all-map (is_sensor_row channels width) (row_of width) rows, parts.0, parts.1) refl
+    let parts = all_parts (λ row. is_sensor_row channels width (sensor_row width row)) (is_row_of_places width) rows all in
+    rw (length-map rows (sensor_row width), count, list_all-map (is_sensor_row channels width) (sensor_row width) rows, parts.0, parts.1) refl
 
 -- words in the first places, and zeros
 pub are_four : (xs ys : List ℤ) → length xs ≤ 4 → ys ≡ xs → are_places (length xs) (ys ++ drop (length xs) (pos 0 ∷ pos 0 ∷ pos 0 ∷ pos 0 ∷ [])) ≡ true

@@ -7,12 +7,12 @@ use Rattle.std.proofs.lemmas.List.{length-map}
 use Rattle.guards_model.proofs.BoolTests.{both, and_true}
 use Rattle.guards_model.proofs.ListTests.{weaken}
 use Rattle.guards_model.specs.Expressions.{fits_or_none}
-use Rattle.guards_model.specs.Missions.{within, is_write, is_task, is_table}
+use Rattle.guards_model.specs.Missions.{within, is_write, is_task_in_range, is_table}
 use Rattle.guards_model.specs.Tasks.{WriteValue, TaskValue}
 use Rattle.task_table.specs.declared.fault.TableFault.{TableFault}
 use Rattle.task_table.specs.declared.fault.TableFault.TheVariants.{Tasks, Writes, Block, Set, Rows, Row}
 use Rattle.task_table.specs.TableFaults.{fault_or, first_fault, write_fault, task_fault, row_fault, table_fault}
-use Rattle.task_table.specs.Tables.{task_at, named_tasks, expressions_fit, names_tasks}
+use Rattle.task_table.specs.Tables.{nth_task, named_tasks, expressions_fit, names_tasks}
 use Rattle.task_table.proofs.KeptRules.{no_faults}
 use Rattle.mission_text.specs.Tasks.{are_sets, is_read_task}
 
@@ -33,7 +33,7 @@ all_of_two P Q R good (x ∷ xs) ps qs =
     and_true (R x) (list_all R xs) (good x p.0 q.0) (all_of_two P Q R good xs p.1 q.1)
 
 -- a test of each task holds of the task at a place
-task_passes : (P : TaskValue → Bool) (tasks : List TaskValue) (place : ℕ) → place < length tasks → list_all P tasks ≡ true → P (task_at tasks place) ≡ true
+task_passes : (P : TaskValue → Bool) (tasks : List TaskValue) (place : ℕ) → place < length tasks → list_all P tasks ≡ true → P (nth_task tasks place) ≡ true
 task_passes P [] place there all = absurd (omega (arith, there))
 task_passes P (t ∷ tasks) zero there all = (both (P t) (list_all P tasks) all).0
 task_passes P (t ∷ tasks) (suc place) there all = task_passes P tasks place (omega (arith, there)) (both (P t) (list_all P tasks) all).1
@@ -42,7 +42,7 @@ row_passes : (P : TaskValue → Bool) (tasks : List TaskValue) (row : List ℕ) 
 row_passes P tasks [] named all = refl
 row_passes P tasks (place ∷ row) named all =
     let parts = both (nat_lt place (length tasks)) (names_tasks (length tasks) row) named in
-    and_true (P (task_at tasks place)) (list_all P (named_tasks tasks row)) (task_passes P tasks place (ltb-true place (length tasks) parts.0) all) (row_passes P tasks row parts.1 all)
+    and_true (P (nth_task tasks place)) (list_all P (named_tasks tasks row)) (task_passes P tasks place (ltb-true place (length tasks) parts.0) all) (row_passes P tasks row parts.1 all)
 
 module _ (blocks width : ℕ) where
   -- its block is there, and it has an expression
@@ -68,7 +68,7 @@ module _ (blocks width : ℕ) where
       let r = both (length w.set == 8) (list_all (fits_or_none blocks width) w.set) read in
       rw (f.0, f.1, r.0, r.1) refl
 
-  whole_task : (t : TaskValue) → is_faultless_task t ≡ true → is_read_task blocks width t ≡ true → is_task blocks width t ≡ true
+  whole_task : (t : TaskValue) → is_faultless_task t ≡ true → is_read_task blocks width t ≡ true → is_task_in_range blocks width t ≡ true
   whole_task t faultless read =
       let f = both (within 1 16 (length t.writes)) (list_all is_faultless_write t.writes) faultless in
       and_true (within 1 16 (length t.writes)) (list_all (is_write blocks width) t.writes) f.0
@@ -84,13 +84,13 @@ module _ (blocks width : ℕ) where
           (λ w s. (both (length w.set == 8) (list_all (fits_or_none blocks width) w.set) s).1) r
 
   module _ (tasks : List TaskValue) (rows : List (List ℕ)) (read : list_all (is_read_task blocks width) tasks ≡ true) (named : list_all (names_tasks (length tasks)) rows ≡ true) where
-    rows_whole : (rows : List (List ℕ)) → list_all (names_tasks (length tasks)) rows ≡ true → list_all (λ row. nat_le (length row) 16) rows ≡ true → list_all (is_task blocks width) tasks ≡ true
-        → list_all (λ row. nat_le (length row) 16 && list_all (is_task blocks width) row) (map (named_tasks tasks) rows) ≡ true
+    rows_whole : (rows : List (List ℕ)) → list_all (names_tasks (length tasks)) rows ≡ true → list_all (λ row. nat_le (length row) 16) rows ≡ true → list_all (is_task_in_range blocks width) tasks ≡ true
+        → list_all (λ row. nat_le (length row) 16 && list_all (is_task_in_range blocks width) row) (map (named_tasks tasks) rows) ≡ true
     rows_whole [] names short all = refl
     rows_whole (row ∷ rows) names short all =
         let n = both (names_tasks (length tasks) row) (list_all (names_tasks (length tasks)) rows) names in
         let s = both (nat_le (length row) 16) (list_all (λ row. nat_le (length row) 16) rows) short in
-        rw (length-map row (task_at tasks), s.0, row_passes (is_task blocks width) tasks row n.0 all, rows_whole rows n.1 s.1 all) refl
+        rw (length-map row (nth_task tasks), s.0, row_passes (is_task_in_range blocks width) tasks row n.0 all, rows_whole rows n.1 s.1 all) refl
 
     pub table_whole : table_fault blocks tasks rows ≡ None → is_table blocks width (map (named_tasks tasks) rows) ≡ true
     unfolding table_fault
@@ -99,6 +99,6 @@ module _ (blocks width : ℕ) where
         let parts = neither (first_fault (task_fault blocks) 0 tasks) (cond (within 1 16 (length rows)) (first_fault row_fault 0 rows) (Some Rows)) outer.1 in
         let row_parts = tested (within 1 16 (length rows)) (first_fault row_fault 0 rows) Rows parts.1 in
         let faultless = no_faults (task_fault blocks) is_faultless_task faultless_task 0 tasks parts.0 in
-        let all = all_of_two is_faultless_task (is_read_task blocks width) (is_task blocks width) whole_task tasks faultless read in
+        let all = all_of_two is_faultless_task (is_read_task blocks width) (is_task_in_range blocks width) whole_task tasks faultless read in
         let short = no_faults row_fault (λ row. nat_le (length row) 16) (λ n row k. (tested (nat_le (length row) 16) None (Row n) k).0) 0 rows row_parts.1 in
         rw (length-map rows (named_tasks tasks), row_parts.0, rows_whole rows named short all) refl

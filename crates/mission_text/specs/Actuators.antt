@@ -5,8 +5,8 @@ use Rattle.toml.specs.Data.{Data, Members, get_member}
 use Rattle.guards_model.specs.Missions.{ActuatorValue}
 use Rattle.guards_model.specs.Words.{is_word}
 use Rattle.mission_type.specs.declared.mission.Actuator.{Actuator}
-use Rattle.mission_checks.specs.declared.why.Cause.TheVariants.{OutOfRange}
-use Rattle.mission_checks.specs.Checks.{Checked, ◌>>=◌, field, required, table_of, only, demand, sized, each, alone, integer_of, integers}
+use Rattle.document_checks.specs.declared.why.Cause.TheVariants.{OutOfRange}
+use Rattle.document_checks.specs.Checks.{Checked, ◌>>=◌, field, required, table_of, only, demand, sized, each, alone, integer_of, integers}
 
 -- an integer that is at least 0
 unfoldable pub step_at : List ℕ → Data → Checked ℤ

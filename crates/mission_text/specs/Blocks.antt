@@ -5,8 +5,8 @@ use Rattle.toml.specs.Data.{Data, Members, get_member}
 use Rattle.guards_model.specs.Contexts.{ContextValue, zeroed}
 use Rattle.guards_model.specs.Words.{is_word}
 use Rattle.mission_text.specs.declared.blocks.InitBlock.{InitBlock}
-use Rattle.mission_checks.specs.declared.why.Cause.TheVariants.{Duplicate}
-use Rattle.mission_checks.specs.Checks.{Checked, ◌>>=◌, field, required, table_of, only, demand, number, sized, each, integers}
+use Rattle.document_checks.specs.declared.why.Cause.TheVariants.{Duplicate}
+use Rattle.document_checks.specs.Checks.{Checked, ◌>>=◌, field, required, table_of, only, demand, number, sized, each, integers}
 
 abbrev pub names_block : ℕ → InitBlock → Bool
 names_block block earlier = earlier.block == block

@@ -9,8 +9,8 @@ use Rattle.mission_text.specs.declared.core_fields.CoreSizes.{CoreSizes}
 use Rattle.mission_text.specs.declared.core_fields.Limits.{Limits}
 use Rattle.mission_text.specs.declared.core_fields.Choices.{Choices}
 use Rattle.mission_text.specs.declared.core_fields.CoreFields.{CoreFields}
-use Rattle.mission_checks.specs.declared.why.Cause.TheVariants.{OutOfRange, Unknown}
-use Rattle.mission_checks.specs.Checks.{Checked, ◌>>=◌, fails, field, text_of, table_of, only, demand, number, number_or}
+use Rattle.document_checks.specs.declared.why.Cause.TheVariants.{OutOfRange, Unknown}
+use Rattle.document_checks.specs.Checks.{Checked, ◌>>=◌, fails, field, text_of, table_of, only, demand, number, number_or}
 
 abbrev pub core_keys : List (List ℕ)
 core_keys =
@@ -43,8 +43,8 @@ law_named path text =
     else if bytes_eq text (codes "subtract") then Ok Subtract
     else fails Unknown path
 
-unfoldable pub law_at : ℕ → List ℕ → Data → Checked Law
-law_at version path value = do
+unfoldable pub decay_law_at : ℕ → List ℕ → Data → Checked Law
+decay_law_at version path value = do
   text ← text_of path value
   law ← law_named path text
   _ ← demand (is_law version law) OutOfRange path
@@ -52,7 +52,7 @@ law_at version path value = do
 
 abbrev pub law_or : ℕ → List ℕ → Option Data → Checked Law
 law_or version path None = Ok Multiply
-law_or version path (Some value) = law_at version path value
+law_or version path (Some value) = decay_law_at version path value
 
 unfoldable pub law_field : ℕ → List ℕ → Members → Checked Law
 law_field version path fields = law_or version (field path (codes "decay")) (get_member (codes "decay") fields)

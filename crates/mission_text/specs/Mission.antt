@@ -2,8 +2,8 @@
 use Rattle.std.specs.Prelude.{ℕ, List, [], ◌∷◌, length, codes, Ok}
 use Rattle.toml.specs.Data.{Members}
 use Rattle.guards_model.specs.Missions.{MissionValue}
-use Rattle.fault_text.specs.FaultTexts.{script_field}
-use Rattle.mission_checks.specs.Checks.{Checked, ◌>>=◌, required, only, document}
+use Rattle.fault_entries.specs.FaultTexts.{script_field}
+use Rattle.document_checks.specs.Checks.{Checked, ◌>>=◌, required, only, document}
 use Rattle.mission_text.specs.declared.core_fields.CoreFields.{CoreFields}
 use Rattle.mission_text.specs.Core.{core_at, rules_of}
 use Rattle.mission_text.specs.Blocks.{initial_field}

@@ -2,8 +2,8 @@
 use Rattle.std.specs.Prelude.{ℕ, List, [], codes, Ok}
 use Rattle.toml.specs.Data.{Data, Members}
 use Rattle.guards_model.specs.Expressions.{Expression, block_word}
-use Rattle.mission_checks.specs.declared.why.Cause.TheVariants.{OutOfRange}
-use Rattle.mission_checks.specs.Checks.{Checked, ◌>>=◌, fails, required, sized, each, alone}
+use Rattle.document_checks.specs.declared.why.Cause.TheVariants.{OutOfRange}
+use Rattle.document_checks.specs.Checks.{Checked, ◌>>=◌, fails, required, sized, each, alone}
 use Rattle.mission_text.specs.Expressions.{expression_at}
 
 -- an expression that is a word

@@ -7,9 +7,9 @@ use Rattle.task_table.specs.declared.fault.TableFault.{TableFault}
 use Rattle.task_table.specs.declared.fault.TableFault.TheVariants as table
 use Rattle.task_table.specs.TableFaults.{table_fault}
 use Rattle.task_table.specs.Tables.{named_tasks}
-use Rattle.mission_checks.specs.declared.why.Cause.{Cause}
-use Rattle.mission_checks.specs.declared.why.Cause.TheVariants.{Missing, OutOfRange, Unknown}
-use Rattle.mission_checks.specs.Checks.{Checked, ◌>>=◌, fails, field, element, required, text_of, array_of, each, alone}
+use Rattle.document_checks.specs.declared.why.Cause.{Cause}
+use Rattle.document_checks.specs.declared.why.Cause.TheVariants.{Missing, OutOfRange, Unknown}
+use Rattle.document_checks.specs.Checks.{Checked, ◌>>=◌, fails, field, element, required, text_of, array_of, each, alone}
 use Rattle.mission_text.specs.Tasks.{has_name, tasks_field}
 
 -- ---- rows, by the places of their tasks

@@ -4,7 +4,7 @@ use Rattle.std.specs.List.{list_all}
 use Rattle.toml.specs.Data.{Data, Members}
 use Rattle.guards_model.specs.Words.{is_word}
 use Rattle.guards_base.specs.Seen.{Seen}
-use Rattle.mission_checks.specs.Checks.{Checked, ◌>>=◌, required, sized, each, alone, integers}
+use Rattle.document_checks.specs.Checks.{Checked, ◌>>=◌, required, sized, each, alone, integers}
 
 -- a row of sensors: for each channel so many words
 unfoldable pub sensor_row_at : ℕ → ℕ → List ℕ → Data → Checked (List (List ℤ))
@@ -21,8 +21,8 @@ sensors_field channels width fields = do
 -- ---- rows in memory, where each channel has four places
 
 -- the words of each channel
-abbrev pub row_of : ℕ → Seen (List ℤ) → List (List ℤ)
-row_of width row = map (take width) row.items
+abbrev pub sensor_row : ℕ → Seen (List ℤ) → List (List ℤ)
+sensor_row width row = map (take width) row.items
 
 -- so many words
 abbrev pub are_sensor_words : ℕ → List ℤ → Bool

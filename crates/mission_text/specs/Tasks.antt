@@ -6,8 +6,8 @@ use Rattle.toml.specs.Data.{Data, Members, get_member}
 use Rattle.guards_model.specs.Expressions.{Expression, fits_or_none}
 use Rattle.guards_model.specs.Missions.{within}
 use Rattle.guards_model.specs.Tasks.{WriteValue, TaskValue}
-use Rattle.mission_checks.specs.declared.why.Cause.TheVariants.{OutOfRange, Duplicate}
-use Rattle.mission_checks.specs.Checks.{Checked, ◌>>=◌, field, required, text_of, table_of, array_of, only, demand, number, each, alone}
+use Rattle.document_checks.specs.declared.why.Cause.TheVariants.{OutOfRange, Duplicate}
+use Rattle.document_checks.specs.Checks.{Checked, ◌>>=◌, field, required, text_of, table_of, array_of, only, demand, number, each, alone}
 use Rattle.mission_text.specs.Expressions.{expression_at}
 
 -- ---- writes
@@ -17,21 +17,21 @@ expression_or_none blocks width path None = Ok None
 expression_or_none blocks width path (Some value) = expression_at blocks width path value >>= (λ e. Ok (Some e))
 
 -- the expression for a word, if there is one
-unfoldable pub set_at : ℕ → ℕ → List ℕ → List ℕ → Members → Checked (Option Expression)
-set_at blocks width path key fields = expression_or_none blocks width (field path key) (get_member key fields)
+unfoldable pub set_expression_at : ℕ → ℕ → List ℕ → List ℕ → Members → Checked (Option Expression)
+set_expression_at blocks width path key fields = expression_or_none blocks width (field path key) (get_member key fields)
 
 -- the expressions for four words of a block
 unfoldable pub four_sets_at : ℕ → ℕ → List ℕ → (k0 k1 k2 k3 : List ℕ) → Members → Checked (List (Option Expression))
 four_sets_at blocks width path k0 k1 k2 k3 fields = do
-  a ← set_at blocks width path k0 fields
-  b ← set_at blocks width path k1 fields
-  c ← set_at blocks width path k2 fields
-  d ← set_at blocks width path k3 fields
+  a ← set_expression_at blocks width path k0 fields
+  b ← set_expression_at blocks width path k1 fields
+  c ← set_expression_at blocks width path k2 fields
+  d ← set_expression_at blocks width path k3 fields
   Ok (a ∷ b ∷ c ∷ d ∷ [])
 
 -- the expressions for the eight words of a block, in their order
-unfoldable pub sets_at : ℕ → ℕ → List ℕ → Members → Checked (List (Option Expression))
-sets_at blocks width path fields = do
+unfoldable pub expressions_at : ℕ → ℕ → List ℕ → Members → Checked (List (Option Expression))
+expressions_at blocks width path fields = do
   low ← four_sets_at blocks width path (codes "w0") (codes "w1") (codes "w2") (codes "w3") fields
   high ← four_sets_at blocks width path (codes "w4") (codes "w5") (codes "w6") (codes "w7") fields
   Ok (low ++ high)
@@ -45,7 +45,7 @@ write_at blocks width path value = do
   fields ← table_of path value
   _ ← only write_keys path fields
   block ← number 0 255 path (codes "block") fields
-  set ← sets_at blocks width path fields
+  set ← expressions_at blocks width path fields
   Ok (record { block = block; set = set })
 
 -- ---- tasks

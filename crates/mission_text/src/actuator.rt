@@ -6,16 +6,16 @@ ghost use Rattle.toml.specs.View.{view, table_view};
 ghost use Rattle.guards_base.specs.Padding.{padded};
 ghost use Rattle.guards_model.specs.Actuators.{AreForward};
 ghost use Rattle.guards_model.specs.Missions.{is_actuator};
-ghost use Rattle.mission_checks.specs.Checks.{Gives, field, integers};
+ghost use Rattle.document_checks.specs.Checks.{Gives, field, integers};
 ghost use Rattle.mission_type.specs.Parts.{DrivesForward, actuator_of};
 ghost use Rattle.mission_text.specs.Actuators.{actuator_at, actuator_field, actuator_value, are_starts, are_steps, is_step, steps_at, words_or_zeros};
 
 use crate::words::{are_words, is_a_word};
-use guards_base::Sequence;
-use mission_checks::{
+use document_checks::{
     Cause, ElementReader, ReadFault, each, field, integer_of, integers, lookup, only, refusal,
     required, sized, table_of,
 };
+use guards_base::Sequence;
 use mission_type::Actuator;
 use std::alloc::Global;
 use toml::{Table, Value};
@@ -33,7 +33,7 @@ struct StepReader;
 
 impl ElementReader for StepReader {
     ghost use Rattle.std.specs.Prelude.{ℤ};
-    ghost use Rattle.mission_checks.specs.Checks.{alone};
+    ghost use Rattle.document_checks.specs.Checks.{alone};
     ghost use Rattle.mission_text.specs.Actuators.{is_step, step_at};
 
     type Element = i64;

@@ -4,17 +4,17 @@ ghost use Rattle.std.specs.List.{list_all, list_any};
 ghost use Rattle.toml.specs.View.{view, table_view};
 ghost use Rattle.guards_model.specs.Contexts.{zeroed};
 ghost use Rattle.guards_model.specs.Missions.{is_context};
-ghost use Rattle.mission_checks.specs.declared.why.Cause.TheVariants.{Duplicate};
-ghost use Rattle.mission_checks.specs.Checks.{Gives, Refuses, field, integers};
+ghost use Rattle.document_checks.specs.declared.why.Cause.TheVariants.{Duplicate};
+ghost use Rattle.document_checks.specs.Checks.{Gives, Refuses, field, integers};
 ghost use Rattle.mission_text.specs.Blocks.{names_block, is_block, is_init_block, with_blocks, init_blocks_at, initial_at, initial_field};
 
 use crate::words::are_words;
 use context_blocks::{Block, Context};
-use guards_base::Sequence;
-use mission_checks::{
+use document_checks::{
     Cause, ElementReader, ReadFault, each, field, integers, lookup, number, only, refusal,
     required, sized, table_of,
 };
+use guards_base::Sequence;
 use std::alloc::{AllocError, Global};
 use toml::{Table, Value};
 

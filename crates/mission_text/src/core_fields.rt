@@ -1,14 +1,14 @@
 //! The table `core`: the sizes of a mission, its limits, and its choices.
 ghost use Rattle.std.specs.Prelude.{◌≡◌, ◌≤◌, IfOk, IsTrue};
 ghost use Rattle.toml.specs.View.{view, table_view};
-ghost use Rattle.mission_checks.specs.Checks.{Gives};
+ghost use Rattle.document_checks.specs.Checks.{Gives};
 ghost use Rattle.guards_model.specs.Missions.{is_law, is_rules};
-ghost use Rattle.mission_text.specs.Core.{sizes_at, limits_at, law_named, law_at, law_field, choices_at, core_at, rules_of};
+ghost use Rattle.mission_text.specs.Core.{sizes_at, limits_at, law_named, decay_law_at, law_field, choices_at, core_at, rules_of};
 
-use guards_base::{Law, Rules};
-use mission_checks::{
+use document_checks::{
     Cause, ReadFault, field, lookup, number, number_or, only, refusal, table_of, text_of,
 };
+use guards_base::{Law, Rules};
 use std::alloc::Global;
 use toml::{Table, Value};
 
@@ -130,10 +130,10 @@ fn suits_version(version: u32, law: Law) -> bool
     }
 }
 
-#[tactic(auto, unfolding(crate::specs::Core::law_at))]
+#[tactic(auto, unfolding(crate::specs::Core::decay_law_at))]
 fn law_of(alloc: Global, value: &Value, version: u32, path: &str) -> Result<Law, ReadFault>
     ensures fits { IfOk result (λ law. IsTrue (is_law version law)) }
-    ensures exact { Gives (λ law. law) result (law_at version path.now (view value.now)) }
+    ensures exact { Gives (λ law. law) result (decay_law_at version path.now (view value.now)) }
 {
     let law = law_named(alloc, text_of(alloc, value, path)?, path)?;
     if !suits_version(version, law) {

@@ -3,12 +3,12 @@ ghost use Rattle.std.specs.Prelude.{◌≡◌, ◌≤◌, IfOk, IsTrue};
 ghost use Rattle.toml.specs.View.{view};
 ghost use Rattle.guards_model.specs.Expressions.{fits_sizes};
 ghost use Rattle.expr_core.specs.Tree.{tree};
-ghost use Rattle.mission_checks.specs.Checks.{Gives};
+ghost use Rattle.document_checks.specs.Checks.{Gives};
 ghost use Rattle.mission_text.specs.Expressions.{text_expression, expression_at};
 
+use document_checks::{Cause, ReadFault, refusal_at, text_of};
 use expr_core::Expr;
 use expr_text::{ExprFault, parse};
-use mission_checks::{Cause, ReadFault, refusal_at, text_of};
 use std::alloc::Global;
 use toml::Value;
 

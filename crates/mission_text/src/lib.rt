@@ -14,6 +14,6 @@ mod words;
 
 pub use blocks::InitBlock;
 pub use core_fields::{Choices, CoreFields, CoreSizes, Limits};
-pub use mission_checks::{Cause, ReadFault, Why};
+pub use document_checks::{Cause, ReadFault, Why};
 pub use mission_type::{Actuator, Mission, Outputs, SensorRow, SensorRows};
 pub use reading::read;

@@ -5,12 +5,12 @@ ghost use Rattle.toml.specs.View.{view, table_view};
 ghost use Rattle.guards_model.specs.Expressions.{fits_sizes};
 ghost use Rattle.guards_model.specs.Missions.{within};
 ghost use Rattle.expr_core.specs.Tree.{tree};
-ghost use Rattle.mission_checks.specs.Checks.{Gives};
+ghost use Rattle.document_checks.specs.Checks.{Gives};
 ghost use Rattle.mission_text.specs.Outputs.{word_or, outputs_field};
 
 use crate::expressions::{TextSizes, expression_of};
+use document_checks::{Cause, ElementReader, ReadFault, each, refusal, required, sized};
 use expr_core::Expr;
-use mission_checks::{Cause, ElementReader, ReadFault, each, refusal, required, sized};
 use mission_type::Outputs;
 use std::alloc::Global;
 use toml::{Table, Value};
@@ -35,7 +35,7 @@ struct OutputReader {
 
 impl ElementReader for OutputReader {
     ghost use Rattle.std.specs.Prelude.{ℕ, ◌&&◌, nat_lt};
-    ghost use Rattle.mission_checks.specs.Checks.{alone};
+    ghost use Rattle.document_checks.specs.Checks.{alone};
     ghost use Rattle.mission_text.specs.Outputs.{output_at};
 
     type Element = (u8, u8);

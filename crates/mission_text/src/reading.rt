@@ -2,7 +2,7 @@
 ghost use Rattle.std.specs.Prelude.{◌≤◌, IsTrue};
 ghost use Rattle.toml.specs.View.{table_view};
 ghost use Rattle.guards_model.specs.Missions.{is_rules};
-ghost use Rattle.mission_checks.specs.Checks.{Gives};
+ghost use Rattle.document_checks.specs.Checks.{Gives};
 ghost use Rattle.mission_text.specs.Core.{rules_of};
 ghost use Rattle.mission_text.specs.Mission.{mission_after, mission_at, mission_of};
 
@@ -13,8 +13,8 @@ use crate::expressions::TextSizes;
 use crate::outputs::outputs_field;
 use crate::rows::table_field;
 use crate::sensors::sensors_field;
-use fault_text::script_of;
-use mission_checks::{ReadFault, document, only, required};
+use document_checks::{ReadFault, document, only, required};
+use fault_entries::script_of;
 use mission_type::Mission;
 use std::alloc::Global;
 use toml::Table;

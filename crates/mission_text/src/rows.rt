@@ -4,16 +4,16 @@ ghost use Rattle.std.specs.List.{list_all, position};
 ghost use Rattle.toml.specs.View.{view, table_view};
 ghost use Rattle.guards_model.specs.Missions.{is_table};
 ghost use Rattle.task_table.specs.Tables.{names_tasks, places_of};
-ghost use Rattle.mission_checks.specs.Checks.{Gives, Refuses};
+ghost use Rattle.document_checks.specs.Checks.{Gives, Refuses};
 ghost use Rattle.mission_text.specs.Tasks.{has_name};
 ghost use Rattle.mission_text.specs.Rows.{rows_field, task_path, write_path, cause_of_fault, path_of_fault, table_field};
 
 use crate::expressions::TextSizes;
 use crate::tasks::tasks_field;
-use guards_base::Numbers;
-use mission_checks::{
+use document_checks::{
     Cause, ElementReader, ReadFault, array_of, each, element, field, refusal, required, text_of,
 };
+use guards_base::Numbers;
 use std::alloc::{AllocError, Global};
 use task_table::{Table as TaskTable, TableFault, Task, TaskRows};
 use toml::{Table, Value};
@@ -33,7 +33,7 @@ struct PlaceReader<'a> {
 
 impl<'a> ElementReader for PlaceReader<'a> {
     ghost use Rattle.std.specs.Prelude.{ℕ, nat_lt, length};
-    ghost use Rattle.mission_checks.specs.Checks.{alone};
+    ghost use Rattle.document_checks.specs.Checks.{alone};
     ghost use Rattle.mission_text.specs.Rows.{place_at};
 
     type Element = u32;
@@ -72,7 +72,7 @@ struct RowReader<'a> {
 impl<'a> ElementReader for RowReader<'a> {
     ghost use Rattle.std.specs.Prelude.{ℕ, List, length};
     ghost use Rattle.task_table.specs.Tables.{names_tasks};
-    ghost use Rattle.mission_checks.specs.Checks.{alone};
+    ghost use Rattle.document_checks.specs.Checks.{alone};
     ghost use Rattle.mission_text.specs.Rows.{row_at};
 
     type Element = Numbers;

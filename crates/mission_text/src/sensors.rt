@@ -3,12 +3,12 @@ ghost use Rattle.std.specs.Prelude.{◌≡◌, ◌≤◌, ◌&&◌, length, take
 ghost use Rattle.std.specs.List.{list_all};
 ghost use Rattle.toml.specs.View.{table_view};
 ghost use Rattle.guards_model.specs.Missions.{is_sensors};
-ghost use Rattle.mission_checks.specs.Checks.{Gives};
+ghost use Rattle.document_checks.specs.Checks.{Gives};
 ghost use Rattle.mission_type.specs.Parts.{in_use};
 ghost use Rattle.mission_text.specs.Sensors.{sensors_field, are_places, is_row_of_places};
 
 use crate::words::are_words;
-use mission_checks::{ElementReader, ReadFault, each, integers, required, sized};
+use document_checks::{ElementReader, ReadFault, each, integers, required, sized};
 use mission_type::{SensorRow, SensorRows};
 use std::alloc::Global;
 use toml::{Table, Value};
@@ -34,7 +34,7 @@ struct WordsReader {
 
 impl ElementReader for WordsReader {
     ghost use Rattle.std.specs.Prelude.{ℤ, List, take, ◌&&◌};
-    ghost use Rattle.mission_checks.specs.Checks.{alone, integers};
+    ghost use Rattle.document_checks.specs.Checks.{alone, integers};
     ghost use Rattle.mission_text.specs.Sensors.{are_sensor_words, are_places};
 
     type Element = [i64; 4];
@@ -70,18 +70,18 @@ struct SensorReader {
 
 impl ElementReader for SensorReader {
     ghost use Rattle.std.specs.Prelude.{ℤ, List, ◌&&◌};
-    ghost use Rattle.mission_checks.specs.Checks.{alone};
-    ghost use Rattle.mission_text.specs.Sensors.{sensor_row_at, is_sensor_row, row_of, is_row_of_places};
+    ghost use Rattle.document_checks.specs.Checks.{alone};
+    ghost use Rattle.mission_text.specs.Sensors.{sensor_row_at, is_sensor_row, sensor_row, is_row_of_places};
 
     type Element = SensorRow;
 
     ghost Meaning = { List (List ℤ) };
 
-    ghost meaning = { λ reader row. row_of reader.width row };
+    ghost meaning = { λ reader row. sensor_row reader.width row };
 
     ghost check = { λ reader. alone (sensor_row_at reader.channels reader.width) };
 
-    ghost holds = { λ reader row. is_sensor_row reader.channels reader.width (row_of reader.width row) && is_row_of_places reader.width row };
+    ghost holds = { λ reader row. is_sensor_row reader.channels reader.width (sensor_row reader.width row) && is_row_of_places reader.width row };
 
     #[tactic(auto, using(crate::proofs::RowsOfWords::row_holds), unfolding(crate::specs::Sensors::sensor_row_at))]
     fn read(

@@ -4,17 +4,17 @@ ghost use Rattle.std.specs.List.{list_all, list_any};
 ghost use Rattle.toml.specs.View.{view, table_view};
 ghost use Rattle.guards_model.specs.Expressions.{fits_or_none};
 ghost use Rattle.expr_core.specs.Tree.{tree};
-ghost use Rattle.mission_checks.specs.Checks.{Gives};
-ghost use Rattle.mission_text.specs.Tasks.{set_at, four_sets_at, sets_at, is_letter, is_name_byte, is_name, has_name, name_at, writes_at, tasks_field, are_sets, is_read_task};
+ghost use Rattle.document_checks.specs.Checks.{Gives};
+ghost use Rattle.mission_text.specs.Tasks.{set_expression_at, four_sets_at, expressions_at, is_letter, is_name_byte, is_name, has_name, name_at, writes_at, tasks_field, are_sets, is_read_task};
 ghost use Rattle.mission_text.specs.Sets.{four_trees};
 
 use crate::expressions::{TextSizes, expression_of};
-use expr_core::Expr;
-use guards_base::Text;
-use mission_checks::{
+use document_checks::{
     Cause, ElementReader, ReadFault, array_of, each, field, lookup, number, only, refusal,
     required, table_of, text_of,
 };
+use expr_core::Expr;
+use guards_base::Text;
 use std::alloc::Global;
 use task_table::{Sets, Task, Tasks, Write, Writes};
 use toml::{Table, Value};
@@ -24,7 +24,7 @@ const WRITE_KEYS: [&str; 9] = ["block", "w0", "w1", "w2", "w3", "w4", "w5", "w6"
 const TASK_KEYS: [&str; 2] = ["name", "writes"];
 
 /// The expression for a word, if there is one.
-#[tactic(auto, unfolding(crate::specs::Tasks::set_at))]
+#[tactic(auto, unfolding(crate::specs::Tasks::set_expression_at))]
 fn set_of(
     alloc: Global,
     sizes: TextSizes,
@@ -33,7 +33,7 @@ fn set_of(
     fields: &Table,
 ) -> Result<Option<Expr>, ReadFault>
     ensures fits { IfOk result (λ e. IsTrue (fits_or_none sizes.blocks sizes.width (option_map tree e))) }
-    ensures exact { Gives (option_map tree) result (set_at sizes.blocks sizes.width path.now key.now (table_view fields.now)) }
+    ensures exact { Gives (option_map tree) result (set_expression_at sizes.blocks sizes.width path.now key.now (table_view fields.now)) }
 {
     match lookup(fields, key) {
         None => Ok(None),
@@ -102,10 +102,10 @@ fn joined(low: FourSets, high: FourSets) -> Sets
 }
 
 /// The expressions for the eight words of a block.
-#[tactic(auto, unfolding(crate::specs::Tasks::sets_at))]
+#[tactic(auto, unfolding(crate::specs::Tasks::expressions_at))]
 fn sets_of(alloc: Global, sizes: TextSizes, path: &str, fields: &Table) -> Result<Sets, ReadFault>
     ensures fits { IfOk result (λ sets. IsTrue (are_sets sizes.blocks sizes.width sets)) }
-    ensures exact { Gives (λ sets. sets) result (sets_at sizes.blocks sizes.width path.now (table_view fields.now)) }
+    ensures exact { Gives (λ sets. sets) result (expressions_at sizes.blocks sizes.width path.now (table_view fields.now)) }
 {
     let low = four_sets(alloc, sizes, path, "w0", "w1", "w2", "w3", fields)?;
     match four_sets(alloc, sizes, path, "w4", "w5", "w6", "w7", fields) {
@@ -125,7 +125,7 @@ struct WriteReader {
 
 impl ElementReader for WriteReader {
     ghost use Rattle.guards_model.specs.Tasks.{WriteValue};
-    ghost use Rattle.mission_checks.specs.Checks.{alone};
+    ghost use Rattle.document_checks.specs.Checks.{alone};
     ghost use Rattle.mission_text.specs.Tasks.{write_at, are_sets};
 
     type Element = Write;

@@ -1,3 +1,3 @@
-pub mod Sizes
-pub mod SensorWords
+pub mod MissionSizes
+pub mod SensorRows
 pub mod OutputWords

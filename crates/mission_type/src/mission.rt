@@ -2,7 +2,7 @@
 
 ghost use Rattle.std.specs.Prelude.{◌≡◌, ◌<◌, length, IfOk};
 ghost use Rattle.guards_base.specs.Padding.{padded};
-ghost use Rattle.guards_model.specs.Contexts.{word_at};
+ghost use Rattle.guards_model.specs.Contexts.{context_word};
 ghost use Rattle.guards_model.specs.Missions.{IsMission, sensor, output_words};
 ghost use Rattle.mission_type.specs.Parts.{DrivesForward, IsSized, actuator_of};
 
@@ -70,7 +70,7 @@ impl Model for Mission {
 fn word_at(context: &Context, output: (u8, u8)) -> i64
     requires block { output.0 < length context.now }
     requires word { output.1 < 8 }
-    ensures { result ≡ word_at context.now output.0 output.1 }
+    ensures { result ≡ context_word context.now output.0 output.1 }
 {
     let (block, word) = output;
     context.get(block).words[word as usize]
@@ -78,14 +78,14 @@ fn word_at(context: &Context, output: (u8, u8)) -> i64
 
 impl Mission {
     /// Each value of the type is a mission.
-    pub fn is_mission(&self)
+    pub fn prove_mission(&self)
         ensures { IsMission self.now }
     {
         let _width = self.width;
     }
 
     /// The sizes of a mission are within their ranges and fit together.
-    pub fn know_sizes(&self)
+    pub fn prove_sizes(&self)
         ensures { IsSized self.now }
     {
         let _width = self.width;

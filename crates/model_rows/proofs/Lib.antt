@@ -1,1 +1,1 @@
-mod OnLiterals
+mod TracesOnLiterals

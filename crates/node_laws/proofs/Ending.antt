@@ -22,7 +22,7 @@ use Rattle.guards_model.specs.Rounds.{Steps}
 use Rattle.guards_model.proofs.BoolTests.{both, and_true, clear, differ}
 use Rattle.guards_model.proofs.Majorities.{any_weaken}
 use Rattle.guards_runs.specs.Cycles.{Past, Cycle, mode_in, joins_since, is_whole, active_set, next_cycle, cycles_before}
-use Rattle.guards_runs.specs.ControlFacts.{control_at, sweeping_of}
+use Rattle.guards_runs.specs.ControlFacts.{control_after_past, sweeping_of}
 use Rattle.guards_runs.specs.Due.{context_or_none, control_after}
 use Rattle.guards_runs.specs.Promises.{TakesIdeal, HasRun}
 use Rattle.guards_runs.specs.Restoration.{replica_after, content_taken}
@@ -31,8 +31,8 @@ use Rattle.guards_laws.proofs.StayActive.{joined_passive}
 use Rattle.guards_laws.proofs.RunRestores.{run_restores, run_only_whole}
 use Rattle.guards_nodes.specs.NodeStates.{HeldValue, no_progress, no_codes, RunningValue, JoinerValue, StateValue, running, fallen, returning, between_cycles}
 use Rattle.guards_nodes.specs.NodeSteps.{with_content}
-use Rattle.guards_world.specs.NodeFacts.{held_at, running_at, joiner_at, state_at, state_of_mode, held_in, running_in, joiner_swept, joiner_in, state_in, state_at_opening}
-use Rattle.guards_world.specs.SlotSteps.{ended}
+use Rattle.guards_world.specs.NodeFacts.{held_at, running_at, joiner_at, state_at, state_of_mode, held_in, running_value_in, joiner_swept, joiner_in, state_in, state_at_opening}
+use Rattle.guards_world.specs.SlotSteps.{ended_state}
 use Rattle.node_laws.proofs.Opening.{active_in}
 
 -- ---- crashes
@@ -78,7 +78,7 @@ module _ (M : MissionValue) (L : Log) (past : Past) (steps : Steps) (q : Channel
       state_in M past e steps slot done q ≡ cond (is_down (mode_in e q slot)) fallen (state_in M past e steps before done q)
   unfolding state_in
   falls before slot done soon on =
-      let r = running_in M past e steps done q in
+      let r = running_value_in M past e steps done q in
       let j = joiner_in M past e done q in
       let now = slot_mode M L past q low slot on in
       let was = slot_mode M L past q low before (on_before before slot soon on) in
@@ -91,7 +91,7 @@ module _ (M : MissionValue) (L : Log) (past : Past) (steps : Steps) (q : Channel
   pub falls_first : state_in M past e steps Request 0 q ≡ cond (is_down (mode_in e q Request)) fallen (state_at_opening M past e steps q)
   unfolding state_in state_at_opening
   falls_first =
-      let r = running_in M past e steps 0 q in
+      let r = running_value_in M past e steps 0 q in
       let j = joiner_in M past e 0 q in
       let now = slot_mode M L past q low Request refl in
       ap (state_of_mode r j) now
@@ -116,7 +116,7 @@ module _ (M : MissionValue) (L : Log) (n : ℕ) (steps : Steps) (q : Channel) (m
   on = has (active_set M (now ∷ before)) q
 
   abbrev Ends : ModeValue → Type 0
-  Ends m = between_cycles (ended on (state_of_mode (running_in M before now steps 9 q) (joiner_in M before now 9 q) m))
+  Ends m = between_cycles (ended_state on (state_of_mode (running_value_in M before now steps 9 q) (joiner_in M before now 9 q) m))
       ≡ state_of_mode (running_at M (now ∷ before) q) (joiner_at M (now ∷ before) q) (mode_at_end M.return_after on (is_whole q (now ∷ before)) m)
 
   -- a channel that is up was active, so it did not join
@@ -131,7 +131,7 @@ module _ (M : MissionValue) (L : Log) (n : ℕ) (steps : Steps) (q : Channel) (m
       let H : Bool → Bool → HeldValue =
       λ whole joined. record {
         context = context_or_none (cond whole (Some now.ideal_context) (place_or now.contexts_after q None));
-        control = control_at M (now ∷ before);
+        control = control_after_past M (now ∷ before);
         accused = cond joined [] (place_or now.accusations q []);
         heard = cond joined (by_channel (λ p. 0)) (place_or now.request_codes q []);
       } in
@@ -139,17 +139,17 @@ module _ (M : MissionValue) (L : Log) (n : ℕ) (steps : Steps) (q : Channel) (m
 
   ends_up : mode_in now q Switch ≡ up → (b : Bool) → on ≡ b → Ends up
   ends_up h true is =
-      ap (λ b. between_cycles (ended b (running (running_in M before now steps 9 q)))) is
+      ap (λ b. between_cycles (ended_state b (running (running_value_in M before now steps 9 q)))) is
       ∙ ap (λ held. running (record { held = held; progress = no_progress })) (keeps (not_joined h))
       ∙ ap (λ b. state_of_mode (running_at M (now ∷ before) q) (joiner_at M (now ∷ before) q) (mode_at_end M.return_after b (is_whole q (now ∷ before)) up)) (sym is)
   ends_up h false is =
-      ap (λ b. between_cycles (ended b (running (running_in M before now steps 9 q)))) is
+      ap (λ b. between_cycles (ended_state b (running (running_value_in M before now steps 9 q)))) is
       ∙ ap (λ b. state_of_mode (running_at M (now ∷ before) q) (joiner_at M (now ∷ before) q) (mode_at_end M.return_after b (is_whole q (now ∷ before)) up)) (sym is)
 
   -- a whole channel takes the ideal context and the control of the next cycle
-  word_is : has now.joined q ≡ true → control_of_word (control_after M (now ∷ before)) ≡ control_at M (now ∷ before)
+  word_is : has now.joined q ≡ true → control_of_word (control_after M (now ∷ before)) ≡ control_after_past M (now ∷ before)
   unfolding control_of_word
-  word_is h = ap (λ t. record (control_at M (now ∷ before)) { sweeping = option_map (sweeping_of M (now ∷ before)) t }) (sym (over now.joined q now.transfer h))
+  word_is h = ap (λ t. record (control_after_past M (now ∷ before)) { sweeping = option_map (sweeping_of M (now ∷ before)) t }) (sym (over now.joined q now.transfer h))
 
   abbrev word_or : Option ControlWordValue → ControlWordValue → ControlWordValue
   word_or None w = w
@@ -165,7 +165,7 @@ module _ (M : MissionValue) (L : Log) (n : ℕ) (steps : Steps) (q : Channel) (m
       let swept : JoinerValue = joiner_swept M before now q in
       let ctx : with_copies content.copies swept.replica.blocks ≡ now.ideal_context =
       ap context_or_none (sym (ap (option_map (λ (f : FinalValue). with_copies f.copies (replica_after M q (now ∷ before)).blocks)) is) ∙ takes.context) in
-      let control : control_of_word content.control ≡ control_at M (now ∷ before) =
+      let control : control_of_word content.control ≡ control_after_past M (now ∷ before) =
       ap control_of_word (ap (λ o. word_or o content.control) (sym (ap (option_map (λ (f : FinalValue). f.control)) is) ∙ takes.control)) ∙ word_is joined in
       let R : ContextValue → ControlValue → StateValue =
       λ x k. running (record { held = record { context = x; control = k; accused = []; heard = no_codes }; progress = no_progress }) in
@@ -173,13 +173,13 @@ module _ (M : MissionValue) (L : Log) (n : ℕ) (steps : Steps) (q : Channel) (m
       λ whole joined. running (record {
         held = record {
           context = context_or_none (cond whole (Some now.ideal_context) (place_or now.contexts_after q None));
-          control = control_at M (now ∷ before);
+          control = control_after_past M (now ∷ before);
           accused = cond joined [] (place_or now.accusations q []);
           heard = cond joined (by_channel (λ p. 0)) (place_or now.request_codes q []);
         };
         progress = no_progress;
       }) in
-      ap (λ o. between_cycles (ended on (returning (with_content o swept)))) is
+      ap (λ o. between_cycles (ended_state on (returning (with_content o swept)))) is
       ∙ ap (λ x. R x (control_of_word content.control)) ctx
       ∙ ap (R now.ideal_context) control
       ∙ ap (λ b. H b true) (sym whole)
@@ -191,7 +191,7 @@ module _ (M : MissionValue) (L : Log) (n : ℕ) (steps : Steps) (q : Channel) (m
       let joins : is_joining (mode_in now q Switch) ≡ true = ap is_joining h in
       let none : content_taken M q before now ≡ None = (run_only_whole M L (suc n) mission more run).0 q joins whole in
       let J : Bool → StateValue = λ b. returning (record { replica = cond b (replica_after M q (now ∷ before)) (empty_replica M.rules.blocks); taken = None }) in
-      ap (λ o. between_cycles (ended on (returning (with_content o (joiner_swept M before now q))))) none
+      ap (λ o. between_cycles (ended_state on (returning (with_content o (joiner_swept M before now q))))) none
       ∙ ap J (sym joins)
       ∙ ap (λ b. state_of_mode (running_at M (now ∷ before) q) (joiner_at M (now ∷ before) q) (mode_at_end M.return_after on b joining)) (sym whole)
 
@@ -205,12 +205,12 @@ module _ (M : MissionValue) (L : Log) (n : ℕ) (steps : Steps) (q : Channel) (m
   ends_by (waiting k) h = refl
   ends_by joining h = ends_joining h (is_whole q (now ∷ before)) refl
 
-  pub ends : between_cycles (ended on (state_in M before now steps Switch 9 q)) ≡ state_at M (now ∷ before) q
+  pub ends : between_cycles (ended_state on (state_in M before now steps Switch 9 q)) ≡ state_at M (now ∷ before) q
   unfolding state_in
   ends = with_mode (mode_in now q Switch) refl
     where
-      with_mode : (m : ModeValue) → mode_in now q Switch ≡ m → between_cycles (ended on (state_of_mode (running_in M before now steps 9 q) (joiner_in M before now 9 q) (mode_in now q Switch))) ≡ state_at M (now ∷ before) q
+      with_mode : (m : ModeValue) → mode_in now q Switch ≡ m → between_cycles (ended_state on (state_of_mode (running_value_in M before now steps 9 q) (joiner_in M before now 9 q) (mode_in now q Switch))) ≡ state_at M (now ∷ before) q
       with_mode m h =
-          ap (λ x. between_cycles (ended on (state_of_mode (running_in M before now steps 9 q) (joiner_in M before now 9 q) x))) h
+          ap (λ x. between_cycles (ended_state on (state_of_mode (running_value_in M before now steps 9 q) (joiner_in M before now 9 q) x))) h
           ∙ ends_by m h
           ∙ ap (λ x. state_of_mode (running_at M (now ∷ before) q) (joiner_at M (now ∷ before) q) (mode_at_end M.return_after on (is_whole q (now ∷ before)) x)) (sym h)

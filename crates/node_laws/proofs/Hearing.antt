@@ -13,13 +13,13 @@ use Rattle.guards_model.specs.Transfers.{TransferValue}
 use Rattle.guards_model.specs.Controls.{transfer_in}
 use Rattle.guards_model.specs.Rounds.{Steps}
 use Rattle.guards_model.proofs.Tables.{has-filter}
-use Rattle.guards_runs.specs.Cycles.{Past, Cycle, running_transfer, received_body, received_items, items_in, opening_of, cycle_from, next_cycle, source_word}
+use Rattle.guards_runs.specs.Cycles.{Past, Cycle, running_transfer, received_body, received_items, items_in, cycle_start_of, cycle_from, next_cycle, source_word}
 use Rattle.guards_runs.specs.ControlFacts.{sweeping_of}
 use Rattle.guards_runs.specs.Due.{is_round}
 use Rattle.guards_laws.proofs.CycleParts.{heard-is}
 use Rattle.guards_nodes.specs.NodeStates.{no_codes, RunningValue}
 use Rattle.guards_nodes.specs.NodeSteps.{Received, tree_of, with_items}
-use Rattle.guards_world.specs.NodeFacts.{received_through, held_in, running_in}
+use Rattle.guards_world.specs.NodeFacts.{received_through, held_in, running_value_in}
 use Rattle.guards_world.specs.SlotSteps.{heard_if, after_requests, with_round}
 use Rattle.node_laws.proofs.Opening.{nothing_yet}
 
@@ -51,19 +51,19 @@ runs_are M past None = refl
 runs_are M past (Some t) = refl
 
 running_is : (M : MissionValue) (L : Log) (past : Past) → (next_cycle M L past).running ≡ running_transfer past
-unfolding cycle_from opening_of
+unfolding cycle_from cycle_start_of
 running_is M L past = refl
 
 pub hears : (M : MissionValue) (L : Log) (past : Past) (steps : Steps) (q : Channel) → q < 7 →
-    after_requests (λ j. have_of (received_body M (next_cycle M L past).entries (length past) Request j q)) every_channel (running_in M past (next_cycle M L past) steps 0 q)
-    ≡ running_in M past (next_cycle M L past) steps 1 q
+    after_requests (λ j. have_of (received_body M (next_cycle M L past).entries (length past) Request j q)) every_channel (running_value_in M past (next_cycle M L past) steps 0 q)
+    ≡ running_value_in M past (next_cycle M L past) steps 1 q
 hears M L past steps q low =
     let e = next_cycle M L past in
     let got : Channel → Option (Option ℕ) = λ j. have_of (received_body M e.entries (length past) Request j q) in
     let H : List ℕ → Received → RunningValue =
     λ codes received. record { held = held_in M past e 0 q; progress = record { hearing = codes; tree = Some (tree_of e.active q M.width (source_word M past q) received); decided = None; worked = None; closed = None } } in
     let C : Option TransferValue → List ℕ = λ t. by_channel (λ j. request_code t j (got j)) in
-    all_heard got (running_in M past e steps 0 q)
+    all_heard got (running_value_in M past e steps 0 q)
     ∙ ap (λ t. H (C t) (received_through M past e 0 q)) (runs_are M past (running_transfer past) ∙ sym (running_is M L past))
     ∙ ap (λ codes. H codes (received_through M past e 0 q)) (sym (heard-is M L past q low))
     ∙ ap (H (place_or e.request_codes q [])) (nothing_yet M past e q 0 (omega arith) ∙ sym (nothing_yet M past e q 1 (omega arith)))

@@ -3,5 +3,12 @@ pub mod Owing
 pub mod Staying
 pub mod Opening
 pub mod Hearing
-pub mod Stepping
+pub mod NodeStepped
 pub mod Ending
+pub mod EachNode
+pub mod SlotNodes
+pub mod OpenNodes
+pub mod RoundNodes
+pub mod VoteNodes
+pub mod OfRound
+pub mod UpContexts

@@ -24,8 +24,8 @@ use Rattle.guards_laws.proofs.OnlyRise.{up_active}
 use Rattle.guards_laws.proofs.CycleParts.{active-is}
 use Rattle.guards_nodes.specs.NodeStates.{HeldValue, no_codes, RunningValue, JoinerValue, StateValue, running, fallen, resting, returning, running_or_none, joiner_or_none, only_hearing, between_cycles}
 use Rattle.guards_nodes.specs.NodeSteps.{Received, nothing_received, tree_of, with_damage, after_source, new_joiner}
-use Rattle.guards_world.specs.NodeFacts.{held_at, running_at, joiner_at, state_at, state_of_mode, is_received, received_through, running_in, joiner_in, state_at_opening}
-use Rattle.guards_world.specs.SlotSteps.{after_damages, begins_to_join, joiner_if, opened}
+use Rattle.guards_world.specs.NodeFacts.{held_at, running_at, joiner_at, state_at, state_of_mode, is_received, received_through, running_value_in, joiner_in, state_at_opening}
+use Rattle.guards_world.specs.SlotSteps.{after_damages, begins_to_join, joiner_if, opened_state}
 
 -- ---- damages
 
@@ -168,7 +168,7 @@ module _ (M : MissionValue) (L : Log) (past : Past) (steps : Steps) (q : Channel
 
   -- the source word of a channel that was up, after the damages
   pub sources : (r : RunningValue) → mode_after M past q ≡ up → r.held ≡ held_at M past q → r.progress.hearing ≡ no_codes →
-      after_source q M.width (sensor M q c) (after_damages M.script q c r) ≡ running_in M past e steps 0 q
+      after_source q M.width (sensor M q c) (after_damages M.script q c r) ≡ running_value_in M past e steps 0 q
   sources r was held hearing =
       let A : HeldValue → List ℕ → RunningValue =
       λ h hs. after_source q M.width (sensor M q c) (record { held = record h { context = damaged_by M.script q c h.context }; progress = record r.progress { hearing = hs } }) in
@@ -180,7 +180,7 @@ module _ (M : MissionValue) (L : Log) (past : Past) (steps : Steps) (q : Channel
       ∙ ap (sourced (context_or_none (place_or e.contexts_before q None)) e.active) (sym (nothing_yet M past e q 0 (omega arith)))
 
   abbrev Opens : StateValue → ModeValue → Type 0
-  Opens state m = opened M past q state ≡ state_of_mode (running_in M past e steps 0 q) (joiner_in M past e 0 q) (mode_at_start restarted m)
+  Opens state m = opened_state M past q state ≡ state_of_mode (running_value_in M past e steps 0 q) (joiner_in M past e 0 q) (mode_at_start restarted m)
 
   opens_up : (state : StateValue) → mode_after M past q ≡ up → between_cycles state ≡ running (running_at M past q) → Opens state up
   opens_up (running r) was h =
@@ -198,10 +198,10 @@ module _ (M : MissionValue) (L : Log) (past : Past) (steps : Steps) (q : Channel
       let empty = new_is M past q (ap is_up was) (ap is_joining was) in
       ap (λ b. joiner_if M.rules.blocks b fallen) (begins down was ∙ ap (λ t. is_joining (mode_at_start t down) && true) is)
       ∙ ap returning (sym empty)
-      ∙ ap (λ t. state_of_mode (running_in M past e steps 0 q) (joiner_in M past e 0 q) (mode_at_start t down)) (sym is)
+      ∙ ap (λ t. state_of_mode (running_value_in M past e steps 0 q) (joiner_in M past e 0 q) (mode_at_start t down)) (sym is)
   opens_down fallen was h false is =
       ap (λ b. joiner_if M.rules.blocks b fallen) (begins down was ∙ ap (λ t. is_joining (mode_at_start t down) && true) is)
-      ∙ ap (λ t. state_of_mode (running_in M past e steps 0 q) (joiner_in M past e 0 q) (mode_at_start t down)) (sym is)
+      ∙ ap (λ t. state_of_mode (running_value_in M past e steps 0 q) (joiner_in M past e 0 q) (mode_at_start t down)) (sym is)
   opens_down (running r) was h t is = absurd cc
   opens_down resting was h t is = absurd cc
   opens_down (returning j) was h t is = absurd cc
@@ -228,6 +228,6 @@ module _ (M : MissionValue) (L : Log) (past : Past) (steps : Steps) (q : Channel
   by_mode state (waiting n) was h = opens_waiting state n was h
   by_mode state joining was h = opens_joining state h
 
-  pub opens : (state : StateValue) → between_cycles state ≡ state_at M past q → opened M past q state ≡ state_at_opening M past e steps q
+  pub opens : (state : StateValue) → between_cycles state ≡ state_at M past q → opened_state M past q state ≡ state_at_opening M past e steps q
   unfolding state_at_opening
   opens state h = by_mode state (mode_after M past q) refl h

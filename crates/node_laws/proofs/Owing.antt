@@ -18,7 +18,7 @@ use Rattle.guards_runs.specs.Due.{exchange_of, is_round}
 use Rattle.guards_runs.specs.Restoration.{carried_over, replica_after}
 use Rattle.node_laws.proofs.Holding.{owed_same}
 use Rattle.guards_nodes.specs.NodeSteps.{StandsFor}
-use Rattle.guards_world.specs.NodeFacts.{state_in, state_of_mode, running_in, joiner_in, received_through}
+use Rattle.guards_world.specs.NodeFacts.{state_in, state_of_mode, running_value_in, joiner_in, received_through}
 use Rattle.guards_world.specs.OwedFrames.{body_of, body_due}
 
 and_false : (b : Bool) → (b && false) ≡ false
@@ -151,7 +151,7 @@ pub stands : (M : MissionValue) (past : Past) (e : Cycle) (steps : Steps) (slot 
 unfolding state_in
 stands M past e steps slot done q = by (mode_in e q slot)
   where
-    by : (m : ModeValue) → StandsFor (state_of_mode (running_in M past e steps done q) (joiner_in M past e done q) m) (received_through M past e done q)
+    by : (m : ModeValue) → StandsFor (state_of_mode (running_value_in M past e steps done q) (joiner_in M past e done q) m) (received_through M past e done q)
     by up = refl
     by down = tt
     by (waiting n) = tt

@@ -19,9 +19,9 @@ use Rattle.guards_model.specs.Decisions.{DecisionValue, if_empty}
 use Rattle.guards_model.specs.Controls.{ControlValue, ClosedValue, control_decided}
 use Rattle.guards_model.specs.Rounds.{Steps, Origin, steps_of, copies_of_replay}
 use Rattle.guards_model.specs.Replicas.{ReplicaValue, after_sweep, final_taken}
-use Rattle.guards_runs.specs.Cycles.{Past, Cycle, Agreement, mode_in, accused_before, heard_before, source_word, received_body, received_items, items_in, cycle_from, cycles_before, entries_of, opening_of, work_of, remaining_of, swept_since}
+use Rattle.guards_runs.specs.Cycles.{Past, Cycle, Agreement, mode_in, accused_before, heard_before, source_word, received_body, received_items, items_in, cycle_from, cycles_before, entries_of, cycle_start_of, work_of, remaining_of, swept_since}
 use Rattle.guards_runs.specs.Due.{context_or_none}
-use Rattle.guards_runs.specs.ControlFacts.{control_at, closed_of, if_joined}
+use Rattle.guards_runs.specs.ControlFacts.{control_after_past, closed_of, if_joined}
 use Rattle.guards_runs.specs.Restoration.{carried_over, replica_after, finals_at, content_taken}
 use Rattle.guards_runs.specs.SlotFacts.{AreFromPlace, FactsStay}
 use Rattle.guards_runs.specs.Due.{is_round}
@@ -31,7 +31,7 @@ use Rattle.guards_laws.proofs.LogGrows.{cycles_before-append, length-cycles_befo
 use Rattle.guards_laws.proofs.Unsent.{All-filter}
 use Rattle.guards_nodes.specs.NodeStates.{HeldValue, ExchangeTreeValue, DecidedValue, WorkedValue, ProgressValue, no_codes, RunningValue, JoinerValue, NodeValue}
 use Rattle.guards_nodes.specs.NodeSteps.{Received, tree_of, kept_of, with_content}
-use Rattle.guards_world.specs.NodeFacts.{is_done, is_received, since, context_in, control_in, held_in, received_through, tree_in, worked_in, progress_in, running_in, joiner_swept, joiner_in, joiner_at, state_of_mode, state_in, node_with}
+use Rattle.guards_world.specs.NodeFacts.{is_done, is_received, since, context_in, control_in, held_in, received_through, tree_value_in, worked_in, progress_in, running_value_in, joiner_swept, joiner_in, joiner_at, state_of_mode, state_in, node_with}
 use Rattle.guards_world.specs.InCycle.{node_in}
 
 pub weaken : (c a b : ℕ) (new : Log) → a ≤ b → AreFromPlace c b new → AreFromPlace c a new
@@ -64,9 +64,9 @@ module _ (M : MissionValue) (entries new : Log) (past : Past) (steps : Steps) (q
   abbrev control_of : DecisionValue → ChannelSet → ControlValue
   control_of d joined =
       record {
-        active = active_after (opening_of M past).active d.removed joined;
+        active = active_after (cycle_start_of M past).active d.removed joined;
         fresh = joined;
-        counts = counts_carried (active_after (opening_of M past).active d.removed joined) joined d.counts;
+        counts = counts_carried (active_after (cycle_start_of M past).active d.removed joined) joined d.counts;
         sweeping = option_map (λ (t : TransferValue). record {
           transfer = t;
           tags = tags_of M.rules.blocks (if nat_le t.start (length past) then record { planned = d.planned; written = written_blocks M (length past) } ∷ swept_since M t.start past else []) [];
@@ -76,16 +76,16 @@ module _ (M : MissionValue) (entries new : Log) (past : Past) (steps : Steps) (q
   joined_stays : is_done Sweep done ≡ true → more.joined ≡ e.joined
   joined_stays h = ap (λ k. k.fresh) ((known Sweep h).closed refl)
 
-  next_stays : is_done Sweep done ≡ true → control_at M (more ∷ past) ≡ control_at M (e ∷ past)
+  next_stays : is_done Sweep done ≡ true → control_after_past M (more ∷ past) ≡ control_after_past M (e ∷ past)
   unfolding cycle_from
   next_stays h = ap (λ d. control_of d more.joined) ((known Sweep h).decided refl) ∙ ap (control_of e.decision) (joined_stays h)
 
   control_stays : control_in M past more done ≡ control_in M past e done
   control_stays =
-      let K : DecisionValue → ControlValue = λ d. control_decided M.rules (length past) (control_at M past) d in
-      since_same Sweep done (since Round3 done (control_at M past) (K more.decision)) (control_at M (more ∷ past)) (control_at M (e ∷ past)) next_stays
-      ∙ ap (λ k. since Sweep done k (control_at M (e ∷ past)))
-      (since_same Round3 done (control_at M past) (K more.decision) (K e.decision) (λ h. ap K ((known Round3 h).decided refl)))
+      let K : DecisionValue → ControlValue = λ d. control_decided M.rules (length past) (control_after_past M past) d in
+      since_same Sweep done (since Round3 done (control_after_past M past) (K more.decision)) (control_after_past M (more ∷ past)) (control_after_past M (e ∷ past)) next_stays
+      ∙ ap (λ k. since Sweep done k (control_after_past M (e ∷ past)))
+      (since_same Round3 done (control_after_past M past) (K more.decision) (K e.decision) (λ h. ap K ((known Round3 h).decided refl)))
 
   -- ---- what lasts
 
@@ -142,10 +142,10 @@ module _ (M : MissionValue) (entries new : Log) (past : Past) (steps : Steps) (q
       (λ h. ap (λ k. place_or (place_or (received_items M (entries ++ new) (length past) q) k []) j []) (past_rounds r)
       ∙ ap (λ k. place_or (place_or (received_items M entries (length past) q) k []) j []) (sym (past_rounds r)))
 
-  tree_stays : tree_in M past more done q ≡ tree_in M past e done q
+  tree_stays : tree_value_in M past more done q ≡ tree_value_in M past e done q
   unfolding cycle_from
   tree_stays =
-      ap (λ (received : Received). tree_of (opening_of M past).active q M.width (source_word M past q) received)
+      ap (λ (received : Received). tree_of (cycle_start_of M past).active q M.width (source_word M past q) received)
       (fun_ext (λ r. fun_ext (λ j. received_stays r j)))
 
   decided_stays : since Round3 done None (Some (kept_of more.decision more.inputs)) ≡ since Round3 done None (Some (kept_of e.decision e.inputs))
@@ -157,7 +157,7 @@ module _ (M : MissionValue) (entries new : Log) (past : Past) (steps : Steps) (q
   unfolding cycle_from
   worked_stays h =
       let O : List ℤ → List ℕ → Origin =
-      λ inputs plan. record { context = context_or_none (place_or (opening_of M past).contexts_before q None); row = cycle_writes M (length past); cycle = length past; inputs = inputs; plan = plan } in
+      λ inputs plan. record { context = context_or_none (place_or (cycle_start_of M past).contexts_before q None); row = cycle_writes M (length past); cycle = length past; inputs = inputs; plan = plan } in
       let W : Origin → WorkedValue = λ o. record { cycle = length past; steps = steps_of steps q; copies = copies_of_replay o (steps_of steps q) } in
       ap (λ (a : Agreement). W (O a.inputs more.planned)) ((known Tasks h).agreed refl) ∙ ap (λ (d : DecisionValue). W (O e.inputs d.planned)) ((known Tasks h).decided refl)
 
@@ -184,13 +184,13 @@ module _ (M : MissionValue) (entries new : Log) (past : Past) (steps : Steps) (q
       since_same Tasks done None (Some (worked_in M past more steps q)) (Some (worked_in M past e steps q)) (λ h. ap (λ x. Some x) (worked_stays h)) in
       let k : since Sweep done None (Some (closed_of more)) ≡ since Sweep done None (Some (closed_of e)) =
       since_same Sweep done None (Some (closed_of more)) (Some (closed_of e)) (λ h. ap (λ x. Some x) (closed_stays h)) in
-      ap (λ hearing. P hearing (tree_in M past more done q) (since Round3 done None (Some (kept_of more.decision more.inputs))) (since Tasks done None (Some (worked_in M past more steps q))) (since Sweep done None (Some (closed_of more)))) hearing_stays
+      ap (λ hearing. P hearing (tree_value_in M past more done q) (since Round3 done None (Some (kept_of more.decision more.inputs))) (since Tasks done None (Some (worked_in M past more steps q))) (since Sweep done None (Some (closed_of more)))) hearing_stays
       ∙ ap (λ tree. P (progress_in M past e steps done q).hearing tree (since Round3 done None (Some (kept_of more.decision more.inputs))) (since Tasks done None (Some (worked_in M past more steps q))) (since Sweep done None (Some (closed_of more)))) tree_stays
-      ∙ ap (λ decided. P (progress_in M past e steps done q).hearing (tree_in M past e done q) decided (since Tasks done None (Some (worked_in M past more steps q))) (since Sweep done None (Some (closed_of more)))) decided_stays
-      ∙ ap (λ worked. P (progress_in M past e steps done q).hearing (tree_in M past e done q) (progress_in M past e steps done q).decided worked (since Sweep done None (Some (closed_of more)))) w
-      ∙ ap (P (progress_in M past e steps done q).hearing (tree_in M past e done q) (progress_in M past e steps done q).decided (progress_in M past e steps done q).worked) k
+      ∙ ap (λ decided. P (progress_in M past e steps done q).hearing (tree_value_in M past e done q) decided (since Tasks done None (Some (worked_in M past more steps q))) (since Sweep done None (Some (closed_of more)))) decided_stays
+      ∙ ap (λ worked. P (progress_in M past e steps done q).hearing (tree_value_in M past e done q) (progress_in M past e steps done q).decided worked (since Sweep done None (Some (closed_of more)))) w
+      ∙ ap (P (progress_in M past e steps done q).hearing (tree_value_in M past e done q) (progress_in M past e steps done q).decided (progress_in M past e steps done q).worked) k
 
-  running_stays : running_in M past more steps done q ≡ running_in M past e steps done q
+  running_stays : running_value_in M past more steps done q ≡ running_value_in M past e steps done q
   running_stays =
       let R : HeldValue → ProgressValue → RunningValue = λ held progress. record { held = held; progress = progress } in
       ap (λ held. R held (progress_in M past more steps done q)) held_stays ∙ ap (R (held_in M past e done q)) progress_stays
@@ -222,7 +222,7 @@ module _ (M : MissionValue) (entries new : Log) (past : Past) (steps : Steps) (q
   unfolding state_in cycle_from
   state_stays slot =
       ap (λ r. state_of_mode r (joiner_in M past more done q) (mode_in e q slot)) running_stays
-      ∙ ap (λ j. state_of_mode (running_in M past e steps done q) j (mode_in e q slot)) joiner_stays
+      ∙ ap (λ j. state_of_mode (running_value_in M past e steps done q) j (mode_in e q slot)) joiner_stays
 
 -- ---- the same of a log
 

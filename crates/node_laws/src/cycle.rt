@@ -14,15 +14,15 @@ ghost use Rattle.guards_runs.specs.ControlFacts.{closed_of};
 ghost use Rattle.guards_runs.specs.Promises.{HasRun};
 ghost use Rattle.guards_nodes.specs.NodeStates.{StateValue, fallen, between_cycles};
 ghost use Rattle.guards_nodes.specs.NodeSteps.{kept_of, plan_in, after_close};
-ghost use Rattle.guards_world.specs.NodeFacts.{state_at, held_in, running_in, state_in, state_at_opening};
-ghost use Rattle.guards_world.specs.SlotSteps.{opened, ended};
+ghost use Rattle.guards_world.specs.NodeFacts.{state_at, held_in, running_value_in, state_in, state_at_opening};
+ghost use Rattle.guards_world.specs.SlotSteps.{opened_state, ended_state};
 
 /// At a cycle's start the restarts, the damages and the source words take each node to what the facts say there.
 pub fn nodes_open_cycles()
     ensures { (M : MissionValue) (L : Log) (n : ℕ) (steps : Steps) (q : Channel) (state : StateValue) → q < 7 →
         let past = cycles_before M L n in
         between_cycles state ≡ state_at M past q →
-        opened M past q state ≡ state_at_opening M past (cycle_at M L n) steps q }
+        opened_state M past q state ≡ state_at_opening M past (cycle_at M L n) steps q }
 {}
 
 /// From slot to slot the nodes of channels that are down fall, and the others stay.
@@ -45,17 +45,17 @@ pub fn cycles_are_closed()
     ensures state { (M : MissionValue) (L : Log) (n : ℕ) (steps : Steps) (q : Channel) →
         let past = cycles_before M L n in
         let e = cycle_at M L n in
-        after_close M.rules (written_blocks M (this_cycle past)) (kept_of e.decision e.inputs) (running_in M past e steps 6 q)
-        ≡ running_in M past e steps 7 q }
+        after_close M.rules (written_blocks M (this_cycle past)) (kept_of e.decision e.inputs) (running_value_in M past e steps 6 q)
+        ≡ running_value_in M past e steps 7 q }
     ensures answer { (M : MissionValue) (L : Log) (n : ℕ) (q : Channel) →
         let past = cycles_before M L n in
         let e = cycle_at M L n in
         closed_by M.rules.last (plan_in M.rules (held_in M past e 6 q)) (written_blocks M (this_cycle past)) (held_in M past e 6 q).control
         ≡ closed_of e }
     ensures last_copies { (M : MissionValue) (L : Log) (n : ℕ) (steps : Steps) (q : Channel) →
-        running_in M (cycles_before M L n) (cycle_at M L n) steps 7 q ≡ running_in M (cycles_before M L n) (cycle_at M L n) steps 8 q }
+        running_value_in M (cycles_before M L n) (cycle_at M L n) steps 7 q ≡ running_value_in M (cycles_before M L n) (cycle_at M L n) steps 8 q }
     ensures switches { (M : MissionValue) (L : Log) (n : ℕ) (steps : Steps) (q : Channel) →
-        running_in M (cycles_before M L n) (cycle_at M L n) steps 8 q ≡ running_in M (cycles_before M L n) (cycle_at M L n) steps 9 q }
+        running_value_in M (cycles_before M L n) (cycle_at M L n) steps 8 q ≡ running_value_in M (cycles_before M L n) (cycle_at M L n) steps 9 q }
 {}
 
 /// At the end of a cycle of a run the nodes that are switched off rest and those that took a final content rise: each
@@ -65,5 +65,5 @@ pub fn nodes_end_cycles()
         HasRun M L (suc n) → q < 7 →
         let past = cycles_before M L n in
         let e = cycle_at M L n in
-        between_cycles (ended (has (active_set M (e ∷ past)) q) (state_in M past e steps Switch 9 q)) ≡ state_at M (e ∷ past) q }
+        between_cycles (ended_state (has (active_set M (e ∷ past)) q) (state_in M past e steps Switch 9 q)) ≡ state_at M (e ∷ past) q }
 {}

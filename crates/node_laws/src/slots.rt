@@ -8,12 +8,12 @@ ghost use Rattle.guards_model.specs.Network.{Log, have_of, ballot_of};
 ghost use Rattle.guards_model.specs.Voting.{Ballots};
 ghost use Rattle.guards_model.specs.Rounds.{Steps, steps_of};
 ghost use Rattle.guards_runs.specs.Cycles.{Past, Cycle, this_cycle, cycles_before, cycle_at, received_body, received_items, items_in};
-ghost use Rattle.guards_runs.specs.Due.{is_round, origin_of};
+ghost use Rattle.guards_runs.specs.Due.{is_round, due_origin};
 ghost use Rattle.guards_runs.specs.Promises.{DecidesAlike};
 ghost use Rattle.guards_runs.specs.Report.{line_of};
 ghost use Rattle.guards_runs.specs.Restoration.{sweeps_at, finals_at};
 ghost use Rattle.guards_nodes.specs.NodeSteps.{kept_of, after_decision, origin_by, after_steps, after_votes, line_by, after_sweep_frames, after_final_frames};
-ghost use Rattle.guards_world.specs.NodeFacts.{received_through, tree_in, held_in, progress_in, running_in, joiner_in};
+ghost use Rattle.guards_world.specs.NodeFacts.{received_through, tree_value_in, held_in, progress_in, running_value_in, joiner_in};
 ghost use Rattle.guards_world.specs.SlotSteps.{after_requests, with_round};
 
 /// The requests that count in the request slot, each heard in turn.
@@ -22,8 +22,8 @@ pub fn requests_are_heard()
         let past = cycles_before M L n in
         let e = cycle_at M L n in
         after_requests (λ j. have_of (received_body M e.entries (this_cycle past) Request j q)) every_channel
-        (running_in M past e steps 0 q)
-        ≡ running_in M past e steps 1 q }
+        (running_value_in M past e steps 0 q)
+        ≡ running_value_in M past e steps 1 q }
 {}
 
 /// The exchanges of the other members in a round, each received in turn, make the list that the facts name; where there is
@@ -46,9 +46,9 @@ pub fn nodes_decide()
         after_decision M.rules (this_cycle past) (received_through M past e 4 q)
         (record {
           held = held_in M past e 3 q;
-          progress = record (progress_in M past e steps 3 q) { tree = Some (tree_in M past e 4 q) };
+          progress = record (progress_in M past e steps 3 q) { tree = Some (tree_value_in M past e 4 q) };
         })
-        ≡ running_in M past e steps 4 q }
+        ≡ running_value_in M past e steps 4 q }
 {}
 
 /// Its round begins with the origin that the facts name, and by the steps that it makes it holds the context after the
@@ -58,13 +58,13 @@ pub fn nodes_work()
         let past = cycles_before M L n in
         let e = cycle_at M L n in
         origin_by M.rules (cycle_writes M (this_cycle past)) (this_cycle past) (held_in M past e 4 q) (kept_of e.decision e.inputs)
-        ≡ origin_of M past e q }
+        ≡ due_origin M past e q }
     ensures state { (M : MissionValue) (L : Log) (n : ℕ) (steps : Steps) (q : Channel) → q < 7 →
         let past = cycles_before M L n in
         let e = cycle_at M L n in
         after_steps M.rules (cycle_writes M (this_cycle past)) (this_cycle past) (steps_of steps q) (kept_of e.decision e.inputs)
-        (running_in M past e steps 4 q)
-        ≡ running_in M past e steps 5 q }
+        (running_value_in M past e steps 4 q)
+        ≡ running_value_in M past e steps 5 q }
 {}
 
 /// With the ballots that count at it, it keeps the accusations of the facts, and its line is the one of the report.
@@ -75,14 +75,14 @@ pub fn votes_are_taken()
         q < 7 → has e.active q ≡ true → place_or e.contexts_after q None ≡ Some ctx →
         ((j : Channel) → j < 7 → (j == q) ≡ false →
         place_or ballots j None ≡ ballot_of (received_body M e.entries (this_cycle past) Vote j q)) →
-        after_votes q M.outputs ballots (running_in M past e steps 5 q) ≡ running_in M past e steps 6 q }
+        after_votes q M.outputs ballots (running_value_in M past e steps 5 q) ≡ running_value_in M past e steps 6 q }
     ensures line { (M : MissionValue) (L : Log) (n : ℕ) (steps : Steps) (q : Channel) (ctx : ContextValue) (ballots : Ballots) →
         let past = cycles_before M L n in
         let e = cycle_at M L n in
         q < 7 → has e.active q ≡ true → place_or e.contexts_after q None ≡ Some ctx →
         ((j : Channel) → j < 7 → (j == q) ≡ false →
         place_or ballots j None ≡ ballot_of (received_body M e.entries (this_cycle past) Vote j q)) →
-        line_by M.rules q M.outputs (running_in M past e steps 5 q) (kept_of e.decision e.inputs) ballots ≡ line_of M e q }
+        line_by M.rules q M.outputs (running_value_in M past e steps 5 q) (kept_of e.decision e.inputs) ballots ≡ line_of M e q }
 {}
 
 /// A joining channel's replica takes the sweep frames that count, and then the final content.

@@ -10,9 +10,9 @@ use Rattle.guards_model.proofs.ListTests.{all-append}
 use Rattle.guards_nodes.specs.NodeStates.{NodeValue, StateValue, running, fallen, resting, returning, JoinerValue}
 use Rattle.guards_nodes.specs.NodeSteps.{with_content, after_final_frames}
 use Rattle.guards_nodes.specs.NodeCalls.{rejoined, on_returning}
-use Rattle.channel_node.specs.Answers.{mode_of}
+use Rattle.channel_node.specs.Answers.{mode_of_state}
 
-pub joins : (s : StateValue) → mode_of s ≡ mode.Joining → (j : JoinerValue) × (s ≡ returning j)
+pub joins : (s : StateValue) → mode_of_state s ≡ mode.Joining → (j : JoinerValue) × (s ≡ returning j)
 joins (running r) up = absurd cc
 joins fallen up = absurd cc
 joins resting up = absurd cc
@@ -23,7 +23,7 @@ taken_of None j some = absurd cc
 taken_of (Some content) j some = (control_of_word content.control, refl)
 
 -- where a content was taken it runs on
-pub took : (frames : List FinalValue) (old new : NodeValue) (result : Bool) → mode_of old.state ≡ mode.Joining →
+pub took : (frames : List FinalValue) (old new : NodeValue) (result : Bool) → mode_of_state old.state ≡ mode.Joining →
     new ≡ rejoined (after_final_frames frames) old →
     ((j : JoinerValue) → old.state ≡ returning j → result ≡ is_some (final_taken frames j.replica)) → result ≡ true →
     (j : JoinerValue) × (k : ControlValue) × (new.state ≡ returning j) × (j.taken ≡ Some k)

@@ -9,10 +9,10 @@ use Rattle.guards_model.specs.Missions.{RulesValue}
 use Rattle.guards_nodes.specs.NodeStates.{NodeValue, StateValue, running, fallen, resting, returning, RunningValue, ExchangeTreeValue}
 use Rattle.guards_nodes.specs.NodeSteps.{Received, nothing_received, with_items, tree_of, tree_for, word_to_send, StandsFor, TreeStandsFor, after_source, after_exchange}
 use Rattle.guards_nodes.specs.NodeCalls.{changed, on_running, HasReceived}
-use Rattle.channel_node.specs.Answers.{HasTree, mode_of}
+use Rattle.channel_node.specs.Answers.{HasTree, mode_of_state}
 use Rattle.node_rows.specs.Driven.{InRound}
 
-begun_state : (channel : Channel) (rules : RulesValue) (width : ℕ) (sensors : List ℤ) (s : StateValue) → mode_of s ≡ mode.Up →
+begun_state : (channel : Channel) (rules : RulesValue) (width : ℕ) (sensors : List ℤ) (s : StateValue) → mode_of_state s ≡ mode.Up →
     InRound 1 0 (record { channel = channel; rules = rules; state = on_running (after_source channel width sensors) s })
 begun_state channel rules width sensors (running r) up =
     record {
@@ -32,7 +32,7 @@ begun_state channel rules width sensors resting up = absurd cc
 begun_state channel rules width sensors (returning j) up = absurd cc
 
 -- the exchange begins with nothing received
-pub begins : (width : ℕ) (sensors : List ℤ) (old new : NodeValue) → mode_of old.state ≡ mode.Up →
+pub begins : (width : ℕ) (sensors : List ℤ) (old new : NodeValue) → mode_of_state old.state ≡ mode.Up →
     new ≡ changed (after_source old.channel width sensors) old → InRound 1 0 new
 begins width sensors old new up is =
     subst (λ (n : NodeValue). InRound 1 0 n) (sym is) (begun_state old.channel old.rules width sensors old.state up)

@@ -5,8 +5,8 @@ ghost use Rattle.std.specs.Option.{option_copied};
 ghost use Rattle.guards_model.specs.Channels.{has, tolerated_faults};
 ghost use Rattle.guards_model.specs.Frames.{counts_in_range};
 ghost use Rattle.guards_nodes.specs.NodeStates.{running, RunningValue};
-ghost use Rattle.channel_node.specs.Answers.{HasDecision};
-ghost use Rattle.oral_messages.specs.Received.{IsInRange};
+ghost use Rattle.channel_node.specs.Answers.{HasDecidedState};
+ghost use Rattle.oral_messages.specs.Received.{IsExchangeInRange};
 ghost use Rattle.node_rows.specs.Driven.{InRound};
 
 use crate::ready::is_ready;
@@ -61,7 +61,7 @@ pub fn begin(
 
 // Whether a frame is one of this round that the sender may send.
 fn fits(round: u8, from: Chan, frame: Option<&Exchange>) -> bool
-    ensures { result ≡ true → IsInRange (option_copied frame.entry) round from }
+    ensures { result ≡ true → IsExchangeInRange (option_copied frame.entry) round from }
 {
     match frame {
         None => true,
@@ -102,7 +102,7 @@ pub fn decide(node: &mut Node, mission: &Mission, cycle: u32) -> Decided
     requires rules { mission.now.rules ≡ node.old.rules }
     requires at { InRound 3 0 node.old }
     ensures rules { mission.now.rules ≡ node.new.rules }
-    ensures decided { HasDecision node.new.state }
+    ensures decided { HasDecidedState node.new.state }
 {
     let decision = node.decide(mission, cycle);
     Decided {
@@ -121,9 +121,9 @@ pub fn work<R: Threads + Wait + Sync>(
     cycle: u32,
 ) -> Result<(), AllocError>
     requires rules { mission.now.rules ≡ node.old.rules }
-    requires decided { HasDecision node.old.state }
+    requires decided { HasDecidedState node.old.state }
     ensures rules { mission.now.rules ≡ node.new.rules }
-    ensures decided { HasDecision node.new.state }
+    ensures decided { HasDecidedState node.new.state }
 {
     node.work(rt, alloc, mission, cycle, &OpenGate, &Plain)
 }
@@ -131,9 +131,9 @@ pub fn work<R: Threads + Wait + Sync>(
 /// Votes.
 pub fn take_votes(node: &mut Node, mission: &Mission, ballots: &[Option<Ballot>; 7]) -> Voted
     requires rules { mission.now.rules ≡ node.old.rules }
-    requires decided { HasDecision node.old.state }
+    requires decided { HasDecidedState node.old.state }
     ensures rules { mission.now.rules ≡ node.new.rules }
-    ensures decided { HasDecision node.new.state }
+    ensures decided { HasDecidedState node.new.state }
 {
     let line = node.take_votes(mission, ballots);
     Voted {
@@ -146,7 +146,7 @@ pub fn take_votes(node: &mut Node, mission: &Mission, ballots: &[Option<Ballot>;
 /// Closes the cycle. Answers how many blocks remain.
 pub fn close(node: &mut Node, mission: &Mission, cycle: u32) -> Option<u16>
     requires rules { mission.now.rules ≡ node.old.rules }
-    requires decided { HasDecision node.old.state }
+    requires decided { HasDecidedState node.old.state }
     ensures rules { mission.now.rules ≡ node.new.rules }
 {
     let closed = node.close_cycle(mission, cycle);

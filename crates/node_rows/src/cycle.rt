@@ -1,6 +1,6 @@
 //! A cycle of a node, whole, and what is seen of it.
 ghost use Rattle.std.specs.Prelude.{◌≡◌, ◌≤◌, ◌<◌, ◌+◌, OnOk, IfOk, true, is_some};
-ghost use Rattle.channel_node.specs.Answers.{HasDecision};
+ghost use Rattle.channel_node.specs.Answers.{HasDecidedState};
 ghost use Rattle.node_rows.specs.Driven.{InRound};
 
 use crate::alone::{Decided, begin, close, decide, receive, take_votes, work};
@@ -77,7 +77,7 @@ pub fn exchange(
 ) -> Result<Option<Exchanged>, AllocError>
     requires { mission.now.rules ≡ node.old.rules }
     ensures rules { OnOk result (mission.now.rules ≡ node.new.rules) }
-    ensures decided { IfOk result (λ exchanged. is_some exchanged ≡ true → HasDecision node.new.state) }
+    ensures decided { IfOk result (λ exchanged. is_some exchanged ≡ true → HasDecidedState node.new.state) }
 {
     if !begin(alloc, node, mission, cycle)? {
         return Ok(None);

@@ -9,9 +9,9 @@ use Rattle.oral_messages.specs.Ranks.{is_path, rank}
 use Rattle.std.specs.List.{list_all}
 use Rattle.std.proofs.lemmas.Bool.{eqb-true}
 use Rattle.guards_model.proofs.BoolTests.{both, and_true}
-use Rattle.oral_messages.specs.Trees.{TreeValue, Received, Holds, level_of}
+use Rattle.oral_messages.specs.Trees.{TreeValue, ReceivedItems, Holds, tree_level}
 use Rattle.oral_messages.proofs.RankLaws.{path_at}
-use Rattle.oral_messages.proofs.Tables.{rank_within}
+use Rattle.oral_messages.proofs.RankedTables.{rank_within}
 use Rattle.oral_messages.proofs.Formulas.{AreSized, sizes}
 use Rattle.oral_messages.proofs.Resolving.{last_but_one, two_up}
 
@@ -19,18 +19,18 @@ pub source_path : (active : ChannelSet) (s : Channel) → has active s ≡ true 
 unfolding is_distinct
 source_path active s h = and_true (has active s) true h refl
 
-abbrev pub resolved : TreeValue → Received → ℕ → Channel → Option SourceValue
+abbrev pub resolved : TreeValue → ReceivedItems → ℕ → Channel → Option SourceValue
 resolved t received k s = resolved_value t.members t.width t.me t.own received k (s ∷ [])
 
-pub at_rank : (t : TreeValue) (received : Received) (y : PathValue) (k : ℕ) → is_set t.members ≡ true → is_path t.members y ≡ true → length y ≡ k → k ≤ 3 →
-    slice_get (level_of t received k) (rank t.members y) ≡ Some (held_value t.members t.width t.me t.own received y)
-unfolding level_of
+pub at_rank : (t : TreeValue) (received : ReceivedItems) (y : PathValue) (k : ℕ) → is_set t.members ≡ true → is_path t.members y ≡ true → length y ≡ k → k ≤ 3 →
+    slice_get (tree_level t received k) (rank t.members y) ≡ Some (held_value t.members t.width t.me t.own received y)
+unfolding tree_level
 at_rank t received y k set path long small =
     let S : PathValue → Option SourceValue = held_value t.members t.width t.me t.own received in
     let there : slice_get (paths t.members k) (rank t.members y) ≡ Some y = subst (λ n. slice_get (paths t.members n) (rank t.members y) ≡ Some y) long (path_at t.members y set path (omega (arith, long, small))) in
     slice_get-map S (paths t.members k) (rank t.members y) ∙ ap (option_map S) there
 
-pub resolved_at_once : (t : TreeValue) (received : Received) (s : Channel) → is_set t.members ≡ true → has t.members s ≡ true → length t.members < 4 → Holds t received →
+pub resolved_at_once : (t : TreeValue) (received : ReceivedItems) (s : Channel) → is_set t.members ≡ true → has t.members s ≡ true → length t.members < 4 → Holds t received →
     slice_get t.first (rank t.members (s ∷ [])) ≡ Some (resolved t received (tolerated_faults t.members) s)
 resolved_at_once t received s set member few holds =
     let none : 0 ≡ tolerated_faults t.members = omega (arith, few) in
@@ -58,9 +58,9 @@ source_place members s set member =
     let within : rank members (s ∷ []) < length members = subst (λ n. rank members (s ∷ []) < n) sized.first (rank_within members (s ∷ []) 1 set (source_path members s member) refl (omega arith)) in
     record { seven = sized.seven; within = within; branches = product_within (rank members (s ∷ [])) (length members) (length members - 1) within }
 
-pub resolved_by_branches : (t : TreeValue) (received : Received) (s : Channel) → is_set t.members ≡ true → has t.members s ≡ true → 4 ≤ length t.members → length t.members < 7 → Holds t received →
+pub resolved_by_branches : (t : TreeValue) (received : ReceivedItems) (s : Channel) → is_set t.members ≡ true → has t.members s ≡ true → 4 ≤ length t.members → length t.members < 7 → Holds t received →
     majority_value (take (length t.members - 1) (drop (rank t.members (s ∷ []) * (length t.members - 1)) t.second)) ≡ resolved t received (tolerated_faults t.members) s
-unfolding level_of
+unfolding tree_level
 resolved_by_branches t received s set member some few holds =
     let one : 1 ≡ tolerated_faults t.members = omega (arith, some, few) in
     let path = source_path t.members s member in
@@ -69,10 +69,10 @@ resolved_by_branches t received s set member some few holds =
     (path_at t.members (s ∷ []) set path (omega arith)) refl refl
     ∙ ap (λ k. resolved t received k s) one
 
-pub resolved_by_levels : (t : TreeValue) (received : Received) (s : Channel) (branches : List (Option SourceValue)) → is_set t.members ≡ true → has t.members s ≡ true → length t.members ≡ 7 → length branches ≡ 6 →
+pub resolved_by_levels : (t : TreeValue) (received : ReceivedItems) (s : Channel) (branches : List (Option SourceValue)) → is_set t.members ≡ true → has t.members s ≡ true → length t.members ≡ 7 → length branches ≡ 6 →
     ((k : ℕ) → k < 6 → get_or branches k None ≡ majority_value (take 5 (drop ((rank t.members (s ∷ []) * 6 + k) * 5) t.third))) → Holds t received →
     majority_value branches ≡ resolved t received (tolerated_faults t.members) s
-unfolding level_of
+unfolding tree_level
 resolved_by_levels t received s branches set member seven six each holds =
     let two : 2 ≡ tolerated_faults t.members = omega (arith, seven) in
     let path = source_path t.members s member in
@@ -82,8 +82,8 @@ resolved_by_levels t received s branches set member seven six each holds =
     (λ k h.
     each k (omega (arith, h, less))
     ∙ ap (λ xs. majority_value (take 5 (drop ((rank t.members (s ∷ []) * 6 + k) * 5) xs))) (holds.third (omega (arith, seven)))
-    ∙ ap (λ n. majority_value (take n (drop ((rank t.members (s ∷ []) * 6 + k) * n) (level_of t received 3)))) (sym lesser)
-    ∙ ap (λ n. majority_value (take (length t.members - 2) (drop ((rank t.members (s ∷ []) * n + k) * (length t.members - 2)) (level_of t received 3)))) (sym less))
+    ∙ ap (λ n. majority_value (take n (drop ((rank t.members (s ∷ []) * 6 + k) * n) (tree_level t received 3)))) (sym lesser)
+    ∙ ap (λ n. majority_value (take (length t.members - 2) (drop ((rank t.members (s ∷ []) * n + k) * (length t.members - 2)) (tree_level t received 3)))) (sym less))
     ∙ ap (λ k. resolved t received k s) two
 
 -- ---- the bounds of places

@@ -5,15 +5,15 @@ use Rattle.std.proofs.lemmas.Bool.{eqb-true}
 use Rattle.guards_model.specs.Channels.{Channel}
 use Rattle.guards_model.specs.Frames.{ItemValue}
 use Rattle.guards_model.proofs.BoolTests.{both}
-use Rattle.oral_messages.specs.Trees.{TreeValue, Received, with_items, Holds, IsSameMember}
+use Rattle.oral_messages.specs.Trees.{TreeValue, ReceivedItems, with_items_of, Holds, IsSameMember}
 
 -- what the walk has done when so many items are left
 pub record HasKept (old now : TreeValue) (round : ℕ) (from : Channel) (items : List ItemValue) (left : ℕ) : Type 0 where
   pub same : IsSameMember now old
   pub bound : left ≤ length items
-  pub kept : (received : Received) → Holds old received → received round from ≡ [] → Holds now (with_items received round from ((drop left items)))
+  pub kept : (received : ReceivedItems) → Holds old received → received round from ≡ [] → Holds now (with_items_of received round from ((drop left items)))
 
-with_none : (received : Received) (round : ℕ) (from : Channel) → received round from ≡ [] → with_items received round from [] ≡ received
+with_none : (received : ReceivedItems) (round : ℕ) (from : Channel) → received round from ≡ [] → with_items_of received round from [] ≡ received
 with_none received round from none = λ i r j. at r j (r == round) (j == from) refl refl i
   where
     at : (r : ℕ) (j : Channel) (a b : Bool) → (r == round) ≡ a → (j == from) ≡ b → cond (a && b) [] (received r j) ≡ received r j
@@ -33,7 +33,7 @@ kept_none t round from items left e =
     record {
       same = same_self t;
       bound = omega (arith, e);
-      kept = λ received h none. subst (λ xs. Holds t (with_items received round from xs)) (sym (ap (λ n. drop n items) e ∙ drop_end items))
+      kept = λ received h none. subst (λ xs. Holds t (with_items_of received round from xs)) (sym (ap (λ n. drop n items) e ∙ drop_end items))
           (subst (λ r. Holds t r) (sym (with_none received round from none)) h);
     }
 
@@ -41,7 +41,7 @@ same_on : (a b c : TreeValue) → IsSameMember a b → IsSameMember b c → IsSa
 same_on a b c s t = record { members = s.members ∙ t.members; me = s.me ∙ t.me; width = s.width ∙ t.width; own = s.own ∙ t.own }
 
 pub kept_more : (old now next : TreeValue) (round : ℕ) (from : Channel) (items : List ItemValue) (left n : ℕ) (item : ItemValue) → n + 1 ≡ left → item ≡ get_or items n item → HasKept old now round from items left →
-    IsSameMember next now → ((received : Received) (rest : List ItemValue) → Holds now (with_items received round from rest) → Holds next (with_items received round from (item ∷ rest))) → HasKept old next round from items n
+    IsSameMember next now → ((received : ReceivedItems) (rest : List ItemValue) → Holds now (with_items_of received round from rest) → Holds next (with_items_of received round from (item ∷ rest))) → HasKept old next round from items n
 kept_more old now next round from items left n item e is before same keep =
     let bound = before.bound in
     let next_is : suc n ≡ left = omega (arith, e) in
@@ -50,7 +50,7 @@ kept_more old now next round from items left n item e is before same keep =
     record {
       same = same_on next now old same before.same;
       bound = omega arith;
-      kept = λ received h none. subst (λ xs. Holds next (with_items received round from xs)) (sym one) (keep received (drop left items) (before.kept received h none));
+      kept = λ received h none. subst (λ xs. Holds next (with_items_of received round from xs)) (sym one) (keep received (drop left items) (before.kept received h none));
     }
 
 pub in_range_at : (P : ItemValue → Bool) (items : List ItemValue) (n : ℕ) (item : ItemValue) → list_all P items ≡ true → n < length items → item ≡ get_or items n item → P item ≡ true
@@ -58,6 +58,6 @@ in_range_at P [] n d h lt is = absurd (omega (arith, lt))
 in_range_at P (x ∷ items) zero d h lt is = subst (λ y. P y ≡ true) (sym is) (both (P x) (list_all P items) h).0
 in_range_at P (x ∷ items) (suc n) d h lt is = in_range_at P items n d (both (P x) (list_all P items) h).1 (omega (arith, lt)) is
 
-pub kept_all : (old now : TreeValue) (round : ℕ) (from : Channel) (items : List ItemValue) (left : ℕ) → left ≡ 0 → HasKept old now round from items left → (received : Received) → Holds old received → received round from ≡ [] →
-    Holds now (with_items received round from items)
-kept_all old now round from items left e h received holds none = subst (λ n. Holds now (with_items received round from ((drop n items)))) e (h.kept received holds none)
+pub kept_all : (old now : TreeValue) (round : ℕ) (from : Channel) (items : List ItemValue) (left : ℕ) → left ≡ 0 → HasKept old now round from items left → (received : ReceivedItems) → Holds old received → received round from ≡ [] →
+    Holds now (with_items_of received round from items)
+kept_all old now round from items left e h received holds none = subst (λ n. Holds now (with_items_of received round from ((drop n items)))) e (h.kept received holds none)

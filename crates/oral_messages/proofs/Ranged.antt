@@ -7,7 +7,7 @@ use Rattle.guards_model.specs.Channels.{Channel, ChannelSet, has, numbers_below}
 use Rattle.guards_model.specs.Frames.{SourceValue, ItemValue, is_set, absent_or, source_word_in_range, exchange_in_range}
 use Rattle.guards_model.specs.OralMessages.{PathValue, paths}
 use Rattle.guards_model.proofs.BoolTests.{both}
-use Rattle.guards_laws.proofs.ExchangeRange.{exchange_good}
+use Rattle.guards_model.proofs.ExchangeRange.{exchange_good}
 use Rattle.oral_messages.specs.Ranks.{rank}
 use Rattle.oral_messages.specs.Trees.{items_told}
 use Rattle.oral_messages.proofs.RankTables.{ranks_count}

@@ -6,16 +6,16 @@ use Rattle.guards_model.specs.OralMessages.{PathValue, held_value, items_owed, p
 use Rattle.oral_messages.specs.Ranks.{rank}
 
 -- what was received in each round from each member
-abbrev pub Received : Type 0
-Received = ℕ → Channel → List ItemValue
+abbrev pub ReceivedItems : Type 0
+ReceivedItems = ℕ → Channel → List ItemValue
 
 -- nothing
-abbrev pub nothing : Received
+abbrev pub nothing : ReceivedItems
 nothing r j = []
 
 -- the same, with these items in a round from a member
-abbrev pub with_items : Received → ℕ → Channel → List ItemValue → Received
-with_items received round from items r j = if (r == round && j == from) then items else received r j
+abbrev pub with_items_of : ReceivedItems → ℕ → Channel → List ItemValue → ReceivedItems
+with_items_of received round from items r j = if (r == round && j == from) then items else received r j
 
 -- a tree: the members, the one that holds it with its own word, and the values of the paths of each round
 pub record TreeValue : Type 0 where
@@ -28,7 +28,7 @@ pub record TreeValue : Type 0 where
   pub third : List (Option SourceValue)
 
 -- one of three to seven members holds it, and each level that the rounds reach has a place for each path
-pub record IsSound (members : ChannelSet) (me : Channel) (ones twos threes : ℕ) : Type 0 where
+pub record IsTreeInRange (members : ChannelSet) (me : Channel) (ones twos threes : ℕ) : Type 0 where
   pub set : IsTrue (is_set members)
   pub some : 3 ≤ length members
   pub mine : IsTrue (has members me)
@@ -37,21 +37,21 @@ pub record IsSound (members : ChannelSet) (me : Channel) (ones twos threes : ℕ
   pub third : 7 ≤ length members → threes ≡ 210
 
 -- the values of all paths of so many labels, in ascending order of the paths
-unfoldable pub level_of : TreeValue → Received → ℕ → List (Option SourceValue)
-level_of t received labels = map (held_value t.members t.width t.me t.own received) (paths t.members labels)
+unfoldable pub tree_level : TreeValue → ReceivedItems → ℕ → List (Option SourceValue)
+tree_level t received labels = map (held_value t.members t.width t.me t.own received) (paths t.members labels)
 
 -- the tree holds what the member is to hold for what was received
-pub record Holds (t : TreeValue) (received : Received) : Type 0 where
-  pub first : t.first ≡ level_of t received 1
-  pub second : 4 ≤ length t.members → t.second ≡ level_of t received 2
-  pub third : 7 ≤ length t.members → t.third ≡ level_of t received 3
+pub record Holds (t : TreeValue) (received : ReceivedItems) : Type 0 where
+  pub first : t.first ≡ tree_level t received 1
+  pub second : 4 ≤ length t.members → t.second ≡ tree_level t received 2
+  pub third : 7 ≤ length t.members → t.third ≡ tree_level t received 3
 
 -- what a member tells of these paths: the value of each one without itself, labels in their order
 unfoldable pub items_told : Channel → (PathValue → Option SourceValue) → List PathValue → List ItemValue
 items_told me value ys = map (λ y. record { path = reverse y; word = value y }) (filter (λ y. not (has y me)) ys)
 
 -- what a member owes in a round
-unfoldable pub owed_items : TreeValue → Received → ℕ → List ItemValue
+unfoldable pub owed_items : TreeValue → ReceivedItems → ℕ → List ItemValue
 owed_items t received round = items_owed t.members t.width t.me t.own received round
 
 -- the tree is of the same member

@@ -6,8 +6,8 @@ ghost use Rattle.guards_model.specs.Channels.{has, tolerated_faults};
 ghost use Rattle.guards_model.specs.Frames.{ItemValue, item_in_range, exchange_in_range};
 ghost use Rattle.guards_model.specs.OralMessages.{resolved_value, majority_value, of_width};
 ghost use Rattle.oral_messages.specs.Ranks.{is_path};
-ghost use Rattle.oral_messages.specs.Trees.{Received, with_items, Holds, level_of, owed_items, IsSameMember, BeginsTree, KeepsFirst, KeepsSecond, KeepsThird};
-ghost use Rattle.oral_messages.specs.Received.{IsInRange, items_in};
+ghost use Rattle.oral_messages.specs.Trees.{ReceivedItems, with_items_of, Holds, tree_level, owed_items, IsSameMember, BeginsTree, KeepsFirst, KeepsSecond, KeepsThird};
+ghost use Rattle.oral_messages.specs.Received.{IsExchangeInRange, items_of_frame};
 
 use crate::members::Members;
 use crate::owing::{told_of_own, told_of_relays, told_of_sources};
@@ -31,13 +31,13 @@ pub struct Tree {
 
 impl Model for Tree {
     ghost use Rattle.std.specs.Prelude.{vec_len};
-    ghost use Rattle.oral_messages.specs.Trees.{TreeValue, IsSound};
+    ghost use Rattle.oral_messages.specs.Trees.{TreeValue, IsTreeInRange};
 
     ghost Value = { TreeValue };
 
     ghost view = { λ t. record { members = t.members; me = t.me; width = t.width; own = t.own; first = t.first.items; second = t.second.items; third = t.third.items } };
 
-    ghost invariant = { λ t. IsSound t.members t.me (vec_len t.first) (vec_len t.second) (vec_len t.third) };
+    ghost invariant = { λ t. IsTreeInRange t.members t.me (vec_len t.first) (vec_len t.second) (vec_len t.third) };
 }
 
 /// The value that most branches say for the path at a place, where each path has so many branches.
@@ -149,7 +149,7 @@ impl Tree {
     pub fn level(&self, round: u8) -> &[Option<SourceWord>]
         requires low { 1 ≤ round }
         requires high { round ≤ tolerated_faults self.now.members + 1 }
-        ensures { (received : Received) → Holds self.now received → result.now ≡ level_of self.now received round }
+        ensures { (received : ReceivedItems) → Holds self.now received → result.now ≡ tree_level self.now received round }
     {
         if round == 1 {
             self.first.as_slice()
@@ -163,7 +163,7 @@ impl Tree {
     /// The value that most branches say for the source, and theirs likewise.
     pub fn resolve(&self, source: Chan) -> Option<SourceWord>
         requires { IsTrue (has self.now.members source) }
-        ensures { (received : Received) → Holds self.now received → result ≡ resolved_value self.now.members self.now.width self.now.me self.now.own received (tolerated_faults self.now.members) (source ∷ []) }
+        ensures { (received : ReceivedItems) → Holds self.now received → result ≡ resolved_value self.now.members self.now.width self.now.me self.now.own received (tolerated_faults self.now.members) (source ∷ []) }
     {
         let place = self.members.first(source.index());
         let count = self.members.count();
@@ -231,9 +231,9 @@ impl Tree {
         requires another { from ≢ self.old.me }
         requires low { 1 ≤ round }
         requires high { round ≤ tolerated_faults self.old.members + 1 }
-        requires ranges { IsInRange (option_copied frame) round from }
+        requires ranges { IsExchangeInRange (option_copied frame) round from }
         ensures same { IsSameMember self.new self.old }
-        ensures kept { (received : Received) → Holds self.old received → received round from ≡ [] → Holds self.new (with_items received round from (items_in (option_copied frame.entry))) }
+        ensures kept { (received : ReceivedItems) → Holds self.old received → received round from ≡ [] → Holds self.new (with_items_of received round from (items_of_frame (option_copied frame.entry))) }
     {
         if let Some(exchange) = frame {
             self.keep_all(round, from.index(), exchange.items.as_slice());
@@ -246,7 +246,7 @@ impl Tree {
         requires low { 1 ≤ round }
         requires high { round ≤ tolerated_faults self.now.members + 1 }
         ensures round { IfOk result (λ exchange. exchange.round ≡ round) }
-        ensures items { IfOk result (λ exchange. (received : Received) → Holds self.now received → exchange.items ≡ owed_items self.now received round) }
+        ensures items { IfOk result (λ exchange. (received : ReceivedItems) → Holds self.now received → exchange.items ≡ owed_items self.now received round) }
         // a frame of the holder may have it
         ensures range { IfOk result (λ exchange. IsTrue (exchange_in_range self.now.me exchange)) }
     {
@@ -268,7 +268,7 @@ impl Tree {
         requires high { round ≤ tolerated_faults self.old.members + 1 }
         requires ranges { IsTrue (list_all (item_in_range from round) items.now) }
         ensures same { IsSameMember self.new self.old }
-        ensures kept { (received : Received) → Holds self.old received → received round from ≡ [] → Holds self.new (with_items received round from items.now) }
+        ensures kept { (received : ReceivedItems) → Holds self.old received → received round from ≡ [] → Holds self.new (with_items_of received round from items.now) }
     {
         let mut left = items.len();
         while left > 0 {
@@ -285,7 +285,7 @@ impl Tree {
         requires high { round ≤ tolerated_faults self.old.members + 1 }
         requires ranges { IsTrue (item_in_range from round item.now) }
         ensures same { IsSameMember self.new self.old }
-        ensures kept { (received : Received) (rest : List ItemValue) → Holds self.old (with_items received round from rest) → Holds self.new (with_items received round from (item.now ∷ rest)) }
+        ensures kept { (received : ReceivedItems) (rest : List ItemValue) → Holds self.old (with_items_of received round from rest) → Holds self.new (with_items_of received round from (item.now ∷ rest)) }
     {
         let missing = None;
         let word = word_for(self.width, item, &missing);

@@ -58,7 +58,7 @@ pub record HasTaken (may : List RuleValue → EntryValue → Type 0) (script : L
   pub taken_is : taken ≡ taken_of version outputs c disturbed now
 
 -- one line was sent, and this came of it
-pub record HasSent (may : List RuleValue → EntryValue → Type 0) (script : List RuleValue) (old new : Log)
+pub record HasSentLine (may : List RuleValue → EntryValue → Type 0) (script : List RuleValue) (old new : Log)
     (version outputs c : ℕ) (line : LineValue) (as_sent : Bool) (ballot : Option (List ℤ)) : Type 0 where
   pub entry : EntryValue
   pub sent : AreLinesSent may script old new version outputs c (line ∷ []) (entry ∷ [])

@@ -6,7 +6,7 @@ ghost use Rattle.guards_model.specs.Frames.{between, in_range, words_in_range};
 ghost use Rattle.guards_model.specs.Words.{is_word};
 ghost use Rattle.guards_runs.specs.Disturbed.{differs_from};
 ghost use Rattle.guards_model.specs.Actuators.{ballot_counting, ballot_spelled, of_count, output_frame};
-ghost use Rattle.output_gate.specs.Sending.{AreFewSent, HasSent, HasTaken, line_words, TakenValue};
+ghost use Rattle.output_gate.specs.Sending.{AreFewSent, HasSentLine, HasTaken, line_words, TakenValue};
 
 use guards_base::{Ballot, Bytes, Chan, ChanSet, ChannelLine, Slot};
 use icn_bus::Bus;
@@ -172,7 +172,7 @@ fn send_line<B: Bus>(
     requires least { 1 ≤ outputs }
     requires most { outputs ≤ 8 }
     ensures script { B.script bus.new ≡ B.script bus.old }
-    ensures sent { IfOk result (λ sending. HasSent B.may (B.script bus.old) (B.log bus.old) (B.log bus.new)
+    ensures sent { IfOk result (λ sending. HasSentLine B.may (B.script bus.old) (B.log bus.old) (B.log bus.new)
         version outputs cycle line.now sending.as_sent sending.ballot) }
     ensures some { OnErr result (AreFewSent B.may (B.script bus.old) (B.log bus.old) (B.log bus.new)
         version outputs cycle (line.now ∷ [])) }

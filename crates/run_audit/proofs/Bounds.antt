@@ -9,10 +9,10 @@ use Rattle.guards_model.specs.Missions.{MissionValue, ActuatorValue}
 use Rattle.guards_model.specs.Texts.{LineValue, TraceValue, RecordValue}
 use Rattle.guards_model.specs.Transfers.{TransferValue}
 use Rattle.guards_model.proofs.BoolTests.{both}
-use Rattle.report_lines.specs.Lines.{ReportLine, head_told, cycle_told, channel_told, steps_told, end_told, out_told, done_told, stop_told, is_empty, is_form}
-use Rattle.guards_audit.specs.Told.{Told, next_number, active_told}
+use Rattle.guards_audit.specs.Lines.{ReportLine, head_told, cycle_told, channel_told, steps_told, end_told, out_told, done_told, stop_told, is_empty, is_form}
+use Rattle.guards_audit.specs.Told.{Told, next_cycle_number, active_told}
 use Rattle.guards_audit.specs.Tests.{cycle_fits, comes_next, says_fit, transfer_fits}
-use Rattle.guards_audit.specs.Consistency.{Place, at_head, between, amid, awaits_out, at_end, suits, after, after_cycle}
+use Rattle.guards_audit.specs.Consistency.{Place, at_head, between, amid, awaits_out, at_end, suits_place, following_place, after_cycle}
 
 -- one more than the greatest channel
 abbrev top : List ℕ → ℕ
@@ -77,9 +77,9 @@ differ h = absurd (wrong h)
 
 begins_low : (M : MissionValue) (told : Told) (c : ℕ) (active : List ℕ) (t : Option TransferValue) → cycle_fits M told c active t ≡ true → length told < M.cycles
 begins_low M told c active t h =
-    let a = both (nat_lt c M.cycles && c == next_number told) (bytes_eq active (active_told M told) && transfer_fits M told active t) h in
-    let b = both (nat_lt c M.cycles) (c == next_number told) a.0 in
-    omega (arith, leb-true (suc c) M.cycles b.0, eqb-true c (next_number told) b.1)
+    let a = both (nat_lt c M.cycles && c == next_cycle_number told) (bytes_eq active (active_told M told) && transfer_fits M told active t) h in
+    let b = both (nat_lt c M.cycles) (c == next_cycle_number told) a.0 in
+    omega (arith, leb-true (suc c) M.cycles b.0, eqb-true c (next_cycle_number told) b.1)
 
 ends_by : (M : MissionValue) (told : Told) (r r' : RecordValue) (o : Option ActuatorValue) → Placed M (amid told r) → LeadsOn M (amid told r) (after_cycle o (r' ∷ told))
 ends_by M told r r' None h = record { placed = omega (arith, h.0); more = omega (arith, h.1, h.2) }
@@ -89,11 +89,11 @@ map_more : {A : Type 0} (f : A → ℕ) (xs : List A) (x : A) → map f (xs ++ x
 map_more f [] x = refl
 map_more f (y ∷ xs) x = ap (λ ys. f y ∷ ys) (map_more f xs x)
 
-pub leads_on : (M : MissionValue) (p : Place) (line : ReportLine) → is_form line ≡ true → suits M p line ≡ true → Placed M p → LeadsOn M p (after M p line)
+pub leads_on : (M : MissionValue) (p : Place) (line : ReportLine) → is_form line ≡ true → suits_place M p line ≡ true → Placed M p → LeadsOn M p (following_place M p line)
 leads_on M at_head (head_told n m) form h k = record { placed = omega arith; more = omega arith }
 leads_on M (between told) (cycle_told c active t) form h k = record { placed = (begins_low M told c active t h, omega arith, omega arith); more = omega arith }
 leads_on M (between told) (done_told n) form h k =
-    record { placed = tt; more = omega (arith, eqb-true (length told) M.cycles (both (next_number told == M.cycles) (n == M.cycles) h).0) }
+    record { placed = tt; more = omega (arith, eqb-true (length told) M.cycles (both (next_cycle_number told == M.cycles) (n == M.cycles) h).0) }
 leads_on M (amid told r) (channel_told l) form h k =
     let f = λ (x : LineValue). x.channel in
     let next = (both (is_empty r.traces) (comes_next r.active (map f r.lines) l.channel) (both (is_empty r.traces && comes_next r.active (map f r.lines) l.channel) (says_fit M told r l) h).0).1 in

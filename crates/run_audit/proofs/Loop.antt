@@ -16,17 +16,17 @@ use Rattle.guards_model.specs.Words.{is_word}
 use Rattle.guards_model.proofs.BoolTests.{both, and_true}
 use Rattle.guards_model.specs.Missions.{MissionValue, ActuatorValue, IsMission, is_actuator, written_blocks, within, is_law}
 use Rattle.guards_model.specs.Texts.{TextValue, LineValue, RecordValue}
-use Rattle.report_lines.specs.Lines.{ReportLine, head_told, cycle_told, channel_told, steps_told, end_told, out_told, done_told, stop_told, is_empty, if_there, lines_in}
-use Rattle.guards_audit.specs.Told.{Told, next_number, no_line, plan_told, remaining_told, number_remaining, rest_told, swept_told, words_told}
-use Rattle.guards_audit.specs.Tests.{same_words, same_vote, same_votes, same_number, says_same, first_fits, says_fit, comes_next, all_traced, removed_fits, words_fit}
-use Rattle.guards_audit.specs.Consistency.{Place, at_head, between, amid, awaits_out, at_end, suits, after, IsConsistent, IsFirstBad}
-use Rattle.report_lines.specs.Reading.{line_of}
+use Rattle.guards_audit.specs.Lines.{ReportLine, head_told, cycle_told, channel_told, steps_told, end_told, out_told, done_told, stop_told, is_empty, if_there, lines_in}
+use Rattle.guards_audit.specs.Told.{Told, next_cycle_number, blank_line, plan_told, remaining_told, number_remaining, rest_told, swept_told, words_told}
+use Rattle.guards_audit.specs.Tests.{are_same_words, same_vote, same_votes, same_number, says_same, first_fits, says_fit, comes_next, all_traced, removed_fits, words_fit}
+use Rattle.guards_audit.specs.Consistency.{Place, at_head, between, amid, awaits_out, at_end, suits_place, following_place, IsConsistent, IsFirstBad}
+use Rattle.guards_audit.specs.Reading.{line_read}
 use Rattle.guards_audit.specs.Verdicts.{place_by, place_after, is_at_end, or_on, first_bad_from, first_bad}
 use Rattle.guards_audit.proofs.Judging.{consistent_is, first_bad_is}
 use Rattle.told_cycles.specs.declared.auditor.Auditor.{Auditor}
-use Rattle.line_reader.specs.declared.line.Sizes.{Sizes}
-use Rattle.line_reader.specs.declared.line.Line.{Line}
-use Rattle.line_reader.specs.Values.{has_sizes, sizes_of, line_value, Reads}
+use Rattle.run_audit.specs.declared.line.Sizes.{Sizes}
+use Rattle.run_audit.specs.declared.line.Line.{Line}
+use Rattle.run_audit.specs.Values.{has_sizes, sizes_of, line_value, Reads}
 use Rattle.told_cycles.specs.Standing.{HasSizes, StandsAt, Takes}
 use Rattle.told_cycles.proofs.ChannelLemmas.{first_facts}
 
@@ -54,8 +54,8 @@ same_length same (x ∷ xs) (y ∷ ys) h = ap suc (same_length same xs ys (both 
 
 later_sizes : (M : MissionValue) (l first : LineValue) → says_same l first ≡ true → HasSizes M first → has_sizes (sizes_of M) (channel_told l) ≡ true
 later_sizes M l first h s =
-    let a = both (same_words l.inputs first.inputs && same_votes l.votes first.votes) (bytes_eq l.judged first.judged && bytes_eq l.counts first.counts) h in
-    let b = both (same_words l.inputs first.inputs) (same_votes l.votes first.votes) a.0 in
+    let a = both (are_same_words l.inputs first.inputs && same_votes l.votes first.votes) (bytes_eq l.judged first.judged && bytes_eq l.counts first.counts) h in
+    let b = both (are_same_words l.inputs first.inputs) (same_votes l.votes first.votes) a.0 in
     let d = both (bytes_eq l.judged first.judged) (bytes_eq l.counts first.counts) a.1 in
     all_sizes M l (record {
       inputs = same_length int_eq l.inputs first.inputs b.0 ∙ s.inputs;
@@ -65,7 +65,7 @@ later_sizes M l first h s =
 
 says_sizes : (M : MissionValue) (told : Told) (r : RecordValue) (l : LineValue) (lines : List LineValue) → M.rules.channels ≤ 7 →
     ((f : LineValue) → slice_get lines 0 ≡ Some f → HasSizes M f) →
-    cond (is_empty lines) (first_fits M told r l) (says_same l (unwrap_or (slice_get lines 0) no_line)) ≡ true → has_sizes (sizes_of M) (channel_told l) ≡ true
+    cond (is_empty lines) (first_fits M told r l) (says_same l (unwrap_or (slice_get lines 0) blank_line)) ≡ true → has_sizes (sizes_of M) (channel_told l) ≡ true
 says_sizes M told r l [] few sized h = all_sizes M l (first_facts M told r l few h).0
 says_sizes M told r l (f ∷ lines) few sized h = later_sizes M l f h (sized f refl)
 
@@ -77,8 +77,8 @@ rest_sizes M told (Some t) (Some n) few h =
     (omega (
       arith,
       eqb-true n (length (remaining_told M told t)) h,
-      length-filter (remains (record { planned = plan_told M told (Some t); written = written_blocks M (next_number told) } ∷ swept_told M t.start told)) (numbers_below M.rules.blocks),
-      count_by-le-length (remains (record { planned = plan_told M told (Some t); written = written_blocks M (next_number told) } ∷ swept_told M t.start told)) (numbers_below M.rules.blocks),
+      length-filter (remains (record { planned = plan_told M told (Some t); written = written_blocks M (next_cycle_number told) } ∷ swept_told M t.start told)) (numbers_below M.rules.blocks),
+      count_by-le-length (remains (record { planned = plan_told M told (Some t); written = written_blocks M (next_cycle_number told) } ∷ swept_told M t.start told)) (numbers_below M.rules.blocks),
       length-range_with_len 0 M.rules.blocks,
       few,
     ))
@@ -99,7 +99,7 @@ out_size M told words mission k = by_actuator M.actuator mission.actuator k
         (both (length a.steps == length M.outputs && list_all (λ step. is_word step && int_le (pos 0) step) a.steps) (length a.start == length M.outputs && list_all is_word a.start) h).1).0
 
 -- a line that suits a place has the mission's sizes
-pub sizes_suit : (M : MissionValue) (at : Place) (a : Auditor) (line : ReportLine) → M.rules.channels ≤ 7 → IsMission M → StandsAt M at a → suits M at line ≡ true → has_sizes (sizes_of M) line ≡ true
+pub sizes_suit : (M : MissionValue) (at : Place) (a : Auditor) (line : ReportLine) → M.rules.channels ≤ 7 → IsMission M → StandsAt M at a → suits_place M at line ≡ true → has_sizes (sizes_of M) line ≡ true
 sizes_suit M at a (cycle_told c active transfer) few mission h k = refl
 sizes_suit M at a (steps_told t) few mission h k = refl
 sizes_suit M at a (done_told n) few mission h k = refl
@@ -137,33 +137,33 @@ sizes_suit M at_end a (stop_told stop) few mission h k = absurd cc
 
 -- ---- one line
 
-unsuited_by : (M : MissionValue) (at : Place) (line : ReportLine) (b : Bool) → suits M at line ≡ b → (b ≡ true → ⊥) → cond b (Some (after M at line)) None ≡ None
+unsuited_by : (M : MissionValue) (at : Place) (line : ReportLine) (b : Bool) → suits_place M at line ≡ b → (b ≡ true → ⊥) → cond b (Some (following_place M at line)) None ≡ None
 unsuited_by M at line true e h = absurd (h refl)
 unsuited_by M at line false e h = refl
 
-none_by : (M : MissionValue) (at : Place) (a : Auditor) (text : TextValue) (o : Option ReportLine) → M.rules.channels ≤ 7 → IsMission M → line_of text ≡ o → StandsAt M at a →
-    ((line : ReportLine) → line_of text ≡ Some line → has_sizes (sizes_of M) line ≡ false) → option_and_then (place_by M at) o ≡ None
+none_by : (M : MissionValue) (at : Place) (a : Auditor) (text : TextValue) (o : Option ReportLine) → M.rules.channels ≤ 7 → IsMission M → line_read text ≡ o → StandsAt M at a →
+    ((line : ReportLine) → line_read text ≡ Some line → has_sizes (sizes_of M) line ≡ false) → option_and_then (place_by M at) o ≡ None
 none_by M at a text None few mission e stands h = refl
 none_by M at a text (Some line) few mission e stands h =
-    unsuited_by M at line (suits M at line) refl (λ k. differ (sym (sizes_suit M at a line few mission stands k) ∙ h line e))
+    unsuited_by M at line (suits_place M at line) refl (λ k. differ (sym (sizes_suit M at a line few mission stands k) ∙ h line e))
   where
     differ : true ≡ false → ⊥
     differ k = cc
 
 -- a text that is read as no line does not go on
-pub unread : (M : MissionValue) (at : Place) (a : Auditor) (text : TextValue) → M.rules.channels ≤ 7 → IsMission M → StandsAt M at a → ((line : ReportLine) → line_of text ≡ Some line → has_sizes (sizes_of M) line ≡ false) →
+pub unread : (M : MissionValue) (at : Place) (a : Auditor) (text : TextValue) → M.rules.channels ≤ 7 → IsMission M → StandsAt M at a → ((line : ReportLine) → line_read text ≡ Some line → has_sizes (sizes_of M) line ≡ false) →
     place_after M at text ≡ None
 unfolding place_after
-unread M at a text few mission stands h = none_by M at a text (line_of text) few mission refl stands h
+unread M at a text few mission stands h = none_by M at a text (line_read text) few mission refl stands h
 
 -- nor one that does not suit
-pub unsuited : (M : MissionValue) (at : Place) (text : TextValue) (line : ReportLine) → line_of text ≡ Some line → suits M at line ≡ false → place_after M at text ≡ None
+pub unsuited : (M : MissionValue) (at : Place) (text : TextValue) (line : ReportLine) → line_read text ≡ Some line → suits_place M at line ≡ false → place_after M at text ≡ None
 unfolding place_after
-unsuited M at text line h k = ap (option_and_then (place_by M at)) h ∙ ap (λ b. cond b (Some (after M at line)) None) k
+unsuited M at text line h k = ap (option_and_then (place_by M at)) h ∙ ap (λ b. cond b (Some (following_place M at line)) None) k
 
-pub suited : (M : MissionValue) (at : Place) (text : TextValue) (line : ReportLine) → line_of text ≡ Some line → suits M at line ≡ true → place_after M at text ≡ Some (after M at line)
+pub suited : (M : MissionValue) (at : Place) (text : TextValue) (line : ReportLine) → line_read text ≡ Some line → suits_place M at line ≡ true → place_after M at text ≡ Some (following_place M at line)
 unfolding place_after
-suited M at text line h k = ap (option_and_then (place_by M at)) h ∙ ap (λ b. cond b (Some (after M at line)) None) k
+suited M at text line h k = ap (option_and_then (place_by M at)) h ∙ ap (λ b. cond b (Some (following_place M at line)) None) k
 
 -- ---- the lines
 
@@ -191,33 +191,33 @@ begins M trace = refl
 
 -- ---- what the calls answer
 
-pub reads_none : (s t : Sizes) (text now : TextValue) (o : Option Line) → Reads s now o → o ≡ None → s ≡ t → now ≡ text → (line : ReportLine) → line_of text ≡ Some line → has_sizes t line ≡ false
-reads_none s t text now None h e same is line k = subst (λ (x : Sizes). has_sizes x line ≡ false) same (h line (ap line_of is ∙ k))
+pub reads_none : (s t : Sizes) (text now : TextValue) (o : Option Line) → Reads s now o → o ≡ None → s ≡ t → now ≡ text → (line : ReportLine) → line_read text ≡ Some line → has_sizes t line ≡ false
+reads_none s t text now None h e same is line k = subst (λ (x : Sizes). has_sizes x line ≡ false) same (h line (ap line_read is ∙ k))
 reads_none s t text now (Some x) h e same is line k = absurd (other e)
   where
     other : Some x ≡ None → ⊥
     other q = cc
 
-pub reads_some : (s t : Sizes) (text now : TextValue) (o : Option Line) (l : Line) → Reads s now o → o ≡ Some l → s ≡ t → now ≡ text → line_of text ≡ Some (line_value t l)
+pub reads_some : (s t : Sizes) (text now : TextValue) (o : Option Line) (l : Line) → Reads s now o → o ≡ Some l → s ≡ t → now ≡ text → line_read text ≡ Some (line_value t l)
 reads_some s t text now None l h e same is = absurd (other e)
   where
     other : None ≡ Some l → ⊥
     other q = cc
 reads_some s t text now (Some x) l h e same is =
     let alike : x ≡ l = the_same x e in
-    ap line_of (sym is) ∙ h ∙ (λ i. Some (line_value (same i) (alike i)))
+    ap line_read (sym is) ∙ h ∙ (λ i. Some (line_value (same i) (alike i)))
   where
     the_same : (y : Line) → Some y ≡ Some l → y ≡ l
     the_same y q = cc
 
-pub not_taken : (M : MissionValue) (at : Place) (line : ReportLine) (a : Auditor) (b : Bool) → Takes M at line a b → b ≡ false → suits M at line ≡ false
+pub not_taken : (M : MissionValue) (at : Place) (line : ReportLine) (a : Auditor) (b : Bool) → Takes M at line a b → b ≡ false → suits_place M at line ≡ false
 not_taken M at line a false h e = h
 not_taken M at line a true h e = absurd (other e)
   where
     other : true ≡ false → ⊥
     other q = cc
 
-pub taken : (M : MissionValue) (at : Place) (line : ReportLine) (a : Auditor) (b : Bool) → Takes M at line a b → b ≡ true → IsTrue (suits M at line) × StandsAt M (after M at line) a
+pub taken : (M : MissionValue) (at : Place) (line : ReportLine) (a : Auditor) (b : Bool) → Takes M at line a b → b ≡ true → IsTrue (suits_place M at line) × StandsAt M (following_place M at line) a
 taken M at line a true h e = h
 taken M at line a false h e = absurd (other e)
   where

@@ -1,6 +1,11 @@
-//! The auditor of traces: whether a text is a trace that a mission may have. It reads line by line, in one pass.
+//! The auditor of traces: a mission and the trace of its run in one input, the reader of its lines, and the verdict.
 #![tactic(auto)]
 
+mod line;
+mod pieces;
+mod recorded;
 mod verdict;
 
+pub use line::{Line, Sizes, read_line};
+pub use recorded::{line_len, split_run};
 pub use verdict::{Verdict, audit};

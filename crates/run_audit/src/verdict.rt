@@ -1,14 +1,14 @@
 //! The verdict on a trace.
 ghost use Rattle.std.specs.Prelude.{◌≡◌, length, IfOk};
 ghost use Rattle.guards_audit.specs.Consistency as place;
-ghost use Rattle.line_reader.specs.Values.{IsInUse, line_value, sizes_of};
+ghost use Rattle.run_audit.specs.Values.{IsInUse, line_value, sizes_of};
 ghost use Rattle.told_cycles.specs.Standing.{StandsAt, StandsSomewhere, Takes};
 ghost use Rattle.run_audit.specs.Answers.{IsVerdict};
 
-use line_reader::{Line, Sizes, read_line};
+use crate::line::{Line, Sizes, read_line};
+use crate::recorded::line_len;
 use mission_type::Mission;
 use native_calls::Calls;
-use recorded_run::line_len;
 use std::alloc::{AllocError, Global};
 use told_cycles::Auditor;
 
@@ -29,7 +29,7 @@ fn channels(mission: &Mission) -> u8
 fn outputs(mission: &Mission) -> u8
     ensures { result ≡ length mission.now.outputs }
 {
-    mission.know_sizes();
+    mission.prove_sizes();
     mission.outputs().len() as u8
 }
 
@@ -38,7 +38,7 @@ fn sizes(mission: &Mission) -> Sizes
     ensures value { result ≡ sizes_of mission.now }
     ensures used { IsInUse result }
 {
-    mission.know_sizes();
+    mission.prove_sizes();
     Sizes {
         channels: channels(mission),
         width: mission.width(),
@@ -86,8 +86,8 @@ fn verdict_on<C: Calls>(
     requires { StandsAt mission.now place.at_head auditor.old }
     ensures { IfOk result (IsVerdict mission.now trace.now) }
 {
-    mission.is_mission();
-    mission.know_sizes();
+    mission.prove_mission();
+    mission.prove_sizes();
     let mut rest = trace;
     let mut line = 1;
     while !rest.is_empty() {

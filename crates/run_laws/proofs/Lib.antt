@@ -1,3 +1,14 @@
-pub mod Standing
-pub mod Passing
-pub mod Told
+pub mod RunContinues
+pub mod RunPassed
+pub mod RunTold
+pub mod Local
+pub mod Acting
+pub mod NineSlots
+pub mod DrivenTold
+pub mod Driving
+pub mod Ends
+pub mod MayExchange
+pub mod ActedLogs
+pub mod ActedWords
+pub mod ActedEnds
+pub mod RanCycles

@@ -9,7 +9,7 @@ use Rattle.guards_model.specs.BusRules.{RuleValue}
 use Rattle.guards_model.specs.Network.{EntryValue, Log, without_outputs}
 use Rattle.guards_model.specs.Rounds.{Steps, Histories, steps_of}
 use Rattle.guards_model.specs.Records.{shown}
-use Rattle.guards_model.specs.Texts.{TextValue, Part, RecordValue, StopValue, head_line, part_text, text_of}
+use Rattle.guards_model.specs.Texts.{TextValue, Part, RecordValue, StopValue, head_line, part_text, text_of_parts}
 use Rattle.guards_runs.specs.Cycles.{Past, cycles_before, cycle_at}
 use Rattle.guards_runs.specs.Disturbed.{stop_in, stop_of}
 use Rattle.guards_runs.specs.Due.{IsDue, IsMadeBy, AreMadeBy, cycle_carries, carries_through}
@@ -17,7 +17,7 @@ use Rattle.guards_runs.specs.Soundness.{IsSound}
 use Rattle.guards_runs.specs.Report.{cycle_record, latest_steps, earlier_steps, cycle_parts, report, report_parts, traced, traced_parts}
 use Rattle.guards_world.specs.Worlds.{WorldValue, HaltValue, disturbed, no_memory, StandsForWorld}
 use Rattle.guards_world.specs.WorldCycle.{BusValue, AreFull}
-use Rattle.cycle_laws.specs.Fronts.{IsUpToStop}
+use Rattle.world_laws.specs.Fronts.{IsUpToStop}
 
 -- ---- on the bus
 
@@ -30,14 +30,14 @@ AreDueBy M histories (e ∷ past) entries =
     × AreMadeBy M (latest_steps histories) past e now × AreFull M past e (latest_steps histories)
 
 -- The bus has the mission's rules, and its log grew by these entries, each as the bus may.
-pub record Ran (may : List RuleValue → EntryValue → Type 0) (M : MissionValue) (old new : BusValue) (L : Log) : Type 0 where
+pub record HasCarried (may : List RuleValue → EntryValue → Type 0) (M : MissionValue) (old new : BusValue) (L : Log) : Type 0 where
   pub log : new.log ≡ old.log ++ L
   pub script : new.script ≡ bus_rules M
   pub each : AllByRecursion (may (bus_rules M)) L
 
 -- The first n cycles of the mission ran, none of them stopped, and L has their due entries and no others. Histories stand
 -- beside the cycles. So the cycles are sound: agreement, restoration and joins.
-pub record RanCycles (M : MissionValue) (n : ℕ) (L : Log) (histories : Histories) : Type 0 where
+pub record HasRunCycles (M : MissionValue) (n : ℕ) (L : Log) (histories : Histories) : Type 0 where
   pub within : n ≤ M.cycles
   pub beside : length histories ≡ n
   pub due : AreDueBy M histories (cycles_before M L n) L
@@ -45,7 +45,7 @@ pub record RanCycles (M : MissionValue) (n : ℕ) (L : Log) (histories : Histori
   pub sound : IsSound M L n
 
 -- The first n cycles ran, and the next one up to the end of the slot that stopped it.
-pub record RanToStop (M : MissionValue) (n : ℕ) (stop : StopValue) (L : Log) (histories : Histories) : Type 0 where
+pub record HasRunToStop (M : MissionValue) (n : ℕ) (stop : StopValue) (L : Log) (histories : Histories) : Type 0 where
   pub within : n < M.cycles
   pub beside : length histories ≡ n
   pub before : Log
@@ -62,7 +62,7 @@ pub record RanToStop (M : MissionValue) (n : ℕ) (stop : StopValue) (L : Log) (
 
 -- The first n cycles ran, and of the next one's due entries the first few were carried: of a cycle that the mission has, and none
 -- after the slot that stops the run.
-pub record RanPart (M : MissionValue) (n : ℕ) (L : Log) (histories : Histories) : Type 0 where
+pub record HasRunPart (M : MissionValue) (n : ℕ) (L : Log) (histories : Histories) : Type 0 where
   pub within : n ≤ M.cycles
   pub beside : length histories ≡ n
   pub before : Log
@@ -81,7 +81,7 @@ pub record IsBetween (may : List RuleValue → EntryValue → Type 0) (M : Missi
     (F L : Log) (histories : Histories) : Type 0 where
   pub mission : w.mission ≡ M
   pub unspent : w.spent ≡ None
-  pub ran : Ran may M start bus F
+  pub ran : HasCarried may M start bus F
   pub apart : without_outputs F ≡ L
   pub stands : StandsForWorld w L
   pub beside : length histories ≡ w.done
@@ -98,10 +98,10 @@ PassesOn may M start w F L histories (Ok part) new bus =
     × (cycles_before M (L ++ now) w.done ≡ cycles_before M L w.done)
     × (shown M.rules.channels M.width (length M.outputs) part ≡ cycle_record M steps w.done (cycle_at M (L ++ now) w.done))
 PassesOn may M start w F L histories (Err (disturbed stop)) new bus =
-    (now : Log) × Ran may M start bus (F ++ now) × RanToStop M w.done stop (L ++ now) histories
+    (now : Log) × HasCarried may M start bus (F ++ now) × HasRunToStop M w.done stop (L ++ now) histories
     × (cycles_before M (L ++ now) w.done ≡ cycles_before M L w.done)
 PassesOn may M start w F L histories (Err no_memory) new bus =
-    (now : Log) × Ran may M start bus (F ++ now) × RanPart M w.done (L ++ now) histories
+    (now : Log) × HasCarried may M start bus (F ++ now) × HasRunPart M w.done (L ++ now) histories
     × (cycles_before M (L ++ now) w.done ≡ cycles_before M L w.done)
 
 -- ---- as a text
@@ -127,7 +127,7 @@ shortened k (first ∷ rest) = first ∷ keep_last (suc k) rest
 
 -- the short text of a run up to its first stop, with only the last k of its cycles' parts
 abbrev pub short_text : ℕ → Bool → MissionValue → Log → Histories → TextValue
-short_text k trace M L histories = text_of (shortened k (run_text_parts trace M L histories))
+short_text k trace M L histories = text_of_parts (shortened k (run_text_parts trace M L histories))
 
 -- the texts of the last k parts of some cycles, or of all where they are fewer
 abbrev pub last_texts : ℕ → Bool → MissionValue → Histories → Past → List TextValue

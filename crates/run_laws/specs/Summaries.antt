@@ -7,7 +7,7 @@ use Rattle.guards_model.specs.Network.{Log}
 use Rattle.guards_model.specs.Texts.{TextValue, part_text}
 use Rattle.guards_model.specs.CheckTexts.{summary_part}
 use Rattle.guards_runs.specs.Cycles.{Past, cycles_before}
-use Rattle.guards_runs.specs.Report.{running_in}
+use Rattle.guards_runs.specs.Report.{channels_running_in}
 
 -- how many channels were declared joined in some cycles
 abbrev pub joins_in : Past → ℕ
@@ -22,7 +22,7 @@ removals_in (e ∷ past) = removals_in past + length e.removed
 -- the votes of the lowest channel that runs at the end of the last of them; none where there is no such channel
 abbrev pub last_votes : Past → List (Option ℤ)
 last_votes [] = []
-last_votes (e ∷ past) = unwrap_or (option_map (λ p. place_or e.voted p []) (slice_get (running_in Switch e) 0)) []
+last_votes (e ∷ past) = unwrap_or (option_map (λ p. place_or e.voted p []) (slice_get (channels_running_in Switch e) 0)) []
 
 -- the summary of the run of the demo mission of a number
 unfoldable pub summary : ℕ → MissionValue → Log → TextValue

@@ -1,7 +1,7 @@
 //! Traces that are judged by the missions before them.
 use crate::sizes::padded;
 use crate::stage::{Call, Ended, call_alone, smooth};
-use mission_run::{AUDIT_LIMIT, LIMIT};
+use mission_run::{MAX_AUDIT_BYTES, MAX_MISSION_BYTES};
 use std::alloc::{AllocError, Global};
 use std::sync::Wait;
 use std::test::Fail;
@@ -249,9 +249,9 @@ fn mission_of(alloc: Global, len: usize) -> Result<String, AllocError> {
 fn a_mission_before_a_trace_has_its_limit(rt: HostRuntime) -> Result<(), Fail> {
     let alloc = rt.alloc();
     let trace = trace_of(&rt, alloc, SUM)?.text;
-    let longest = input_of(alloc, &mission_of(alloc, LIMIT)?, &trace)?;
+    let longest = input_of(alloc, &mission_of(alloc, MAX_MISSION_BYTES)?, &trace)?;
     assert!(rt; has_bad_line(&rt, alloc, &longest, 0)?);
-    let longer = input_of(alloc, &mission_of(alloc, LIMIT + 1)?, &trace)?;
+    let longer = input_of(alloc, &mission_of(alloc, MAX_MISSION_BYTES + 1)?, &trace)?;
     assert!(rt; is_told(&audit(&rt, alloc, &longer)?, 4, "mission: too long\n"));
     Ok(())
 }
@@ -260,7 +260,7 @@ fn a_mission_before_a_trace_has_its_limit(rt: HostRuntime) -> Result<(), Fail> {
 fn an_input_has_its_limit(rt: HostRuntime) -> Result<(), Fail> {
     let alloc = rt.alloc();
     let input = input_of(alloc, SUM, &trace_of(&rt, alloc, SUM)?.text)?;
-    let mut longest = padded(alloc, &input, AUDIT_LIMIT)?;
+    let mut longest = padded(alloc, &input, MAX_AUDIT_BYTES)?;
     assert!(rt; has_bad_line(&rt, alloc, &longest, 23)?);
     longest.push('x')?;
     assert!(rt; is_told(&audit(&rt, alloc, &longest)?, 4, "mission: too long\n"));

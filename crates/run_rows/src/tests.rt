@@ -3,7 +3,7 @@ use crate::reports::mistake;
 use crate::sizes::{greatest, padded};
 use crate::stage::{Call, Ended, call_alone, call_over, check_alone, smooth};
 use icn_bus::ScriptBus;
-use mission_run::LIMIT;
+use mission_run::MAX_MISSION_BYTES;
 use std::alloc::{AllocError, Global};
 use std::sync::Wait;
 use std::test::Fail;
@@ -236,9 +236,9 @@ fn pieces_may_be_short_and_missions_long(rt: HostRuntime) -> Result<(), Fail> {
         ..smooth("run", SUM)
     };
     assert!(rt; call_alone(&rt, alloc, &short)?.is_like(&usual));
-    let longest = padded(alloc, SUM, LIMIT)?;
+    let longest = padded(alloc, SUM, MAX_MISSION_BYTES)?;
     assert!(rt; call_alone(&rt, alloc, &smooth("run", &longest))?.is_like(&usual));
-    let longer = padded(alloc, SUM, LIMIT + 1)?;
+    let longer = padded(alloc, SUM, MAX_MISSION_BYTES + 1)?;
     let refused = call_alone(&rt, alloc, &smooth("run", &longer))?;
     assert_eq!(rt; (refused.status, refused.entries), (4, 0));
     assert_eq!(rt; refused.text.as_str(), "mission: too long\n");

@@ -17,13 +17,13 @@ use Rattle.guards_model.specs.Network.{EntryValue, Log, is_carry}
 use Rattle.guards_model.specs.ScriptedBus.{IsScripted, fits_carry, fits_receiver, by_rule, delivered_piece, delivered_by}
 use Rattle.guards_runs.specs.Cycles.{Cycle, CycleStart, Past, next_cycle}
 use Rattle.guards_runs.specs.Disturbed.{differs_from, is_charge, disturbed_channels, halts}
-use Rattle.guards_runs.specs.Due.{Carry, IsDue, AtSomePlaces, owed, due_bytes, origin_of, carries_through}
+use Rattle.guards_runs.specs.Due.{Carry, IsDue, AtSomePlaces, owed, due_bytes, due_origin, carries_through}
 use Rattle.guards_model.proofs.BoolTests.{both, and_true, differ}
 use Rattle.guards_model.proofs.SlotTests.{same_slot-equal}
 use Rattle.guards_model.proofs.Membership.{found-any}
 use Rattle.script_laws.proofs.SamePast.{same_size}
 use Rattle.script_laws.specs.Scripts.{ForgesNoSweep}
-use Rattle.script_laws.proofs.Sent.{is_sent, IsSentAt, carry, all_sent, found_if}
+use Rattle.script_laws.proofs.CarriesDue.{is_sent, IsSentAt, carry, all_sent, found_if}
 use Rattle.script_laws.proofs.SlotsAlike.{InBoth, AreBesides, all_of_find, bytes_same, same_start, sent_same, owed_same, earlier}
 
 -- ---- what the script does to a piece
@@ -75,7 +75,7 @@ plain_bytes : (M : MissionValue) (past : Past) (e : Cycle) (slot : Slot) (from t
     y.sent ≡ due_bytes M past e (carry M past e slot from to) []
 plain_bytes M past e slot from to y plain due = by_slot slot plain due.sent
   where
-    by_slot : (s : Slot) → same_slot s Sweep ≡ false → AtSomePlaces s (origin_of M past e from) (λ places. y.sent ≡ due_bytes M past e (carry M past e slot from to) places) →
+    by_slot : (s : Slot) → same_slot s Sweep ≡ false → AtSomePlaces s (due_origin M past e from) (λ places. y.sent ≡ due_bytes M past e (carry M past e slot from to) places) →
         y.sent ≡ due_bytes M past e (carry M past e slot from to) []
     by_slot Request p sent = sent
     by_slot Round1 p sent = sent

@@ -1,5 +1,5 @@
 pub mod SamePast
-pub mod Sent
+pub mod CarriesDue
 pub mod SlotsAlike
 pub mod Charges
 pub mod FirstStops
@@ -7,3 +7,10 @@ pub mod RunEnds
 pub mod Reports
 pub mod FrameCounts
 pub mod WholeRuns
+pub mod QuietCycles
+pub mod IdealReports
+pub mod ActedIdeals
+pub mod FactsAlike
+pub mod OutputsApart
+pub mod VoteFrames
+pub mod OutputCharges

@@ -9,7 +9,7 @@ use Rattle.guards_model.specs.Missions.{MissionValue, bus_rules}
 use Rattle.guards_model.specs.BusRules.{RuleValue}
 use Rattle.guards_model.specs.Network.{EntryValue, Log}
 use Rattle.guards_model.specs.ScriptedBus.{IsScripted}
-use Rattle.guards_model.specs.Texts.{Part, StopValue, text_of, cycle_part, head_line, last_line}
+use Rattle.guards_model.specs.Texts.{Part, StopValue, text_of_parts, cycle_part, head_line, last_line}
 use Rattle.guards_runs.specs.Cycles.{Cycle, Past, next_cycle, cycles_before, cycle_at}
 use Rattle.guards_runs.specs.Disturbed.{disturbed_channels, stop_in, stop_of, first_of_two}
 use Rattle.guards_runs.specs.Report.{cycle_record, cycle_parts, parts_of, told_cycles, told_histories, run_parts, report_parts, report}
@@ -167,4 +167,4 @@ module _ (M : MissionValue) (L K : Log) (forges_none : ForgesNoSweep (bus_rules 
 
   pub reports_alike : report M L ≡ report M K
   unfolding report
-  reports_alike = ap text_of parts_alike
+  reports_alike = ap text_of_parts parts_alike

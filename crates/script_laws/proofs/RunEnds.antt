@@ -21,7 +21,7 @@ use Rattle.guards_laws.proofs.Deliveries.{neither}
 use Rattle.guards_laws.proofs.Agreement.{whole_run, stopped_run}
 use Rattle.guards_laws.proofs.FirstStop.{stop_stays}
 use Rattle.script_laws.specs.Scripts.{StopsAt}
-use Rattle.script_laws.proofs.Sent.{IsDueThrough}
+use Rattle.script_laws.proofs.CarriesDue.{IsDueThrough}
 use Rattle.script_laws.proofs.FirstStops.{ComesTo}
 
 -- ---- one cycle of many

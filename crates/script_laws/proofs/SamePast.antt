@@ -13,7 +13,7 @@ use Rattle.guards_model.specs.Frames.{SourceValue}
 use Rattle.guards_model.specs.Transfers.{TransferValue, TransferCycle, start_of, remaining_blocks, planned_blocks}
 use Rattle.guards_model.specs.Modes.{ModeValue, down, is_up, scripted_mode_at_start, scripted_mode_in_slot, mode_at_end}
 use Rattle.guards_model.specs.Damages.{is_damage, damaged_by}
-use Rattle.guards_runs.specs.Cycles.{CycleStart, Past, mode_in, joins_from, joins_since, is_whole, starts_to, starts_of, held_start, active_set, fresh_set, base_counts, running_transfer, mode_after, context_after, was_damaged, ideal_after, opening_of, accused_before, heard_before, source_word, swept_since, plan_of, remaining_of}
+use Rattle.guards_runs.specs.Cycles.{CycleStart, Past, mode_in, joins_from, joins_since, is_whole, starts_to, starts_of, held_start, active_set, fresh_set, base_counts, running_transfer, mode_after, context_after, was_damaged, ideal_after, cycle_start_of, accused_before, heard_before, source_word, swept_since, plan_of, remaining_of}
 use Rattle.guards_runs.specs.SameFacts.{without_entries, HaveSameFacts}
 
 abbrev pub bare : Past → Past
@@ -103,11 +103,11 @@ opening_with M c active fresh counts running mode marked context =
     }
 
 opening_is : (M : MissionValue) (P : Past) →
-    opening_of M P ≡ opening_with M (length P) (active_set M P) (fresh_set P) (base_counts M P) (running_transfer P) (mode_after M P) (was_damaged P) (context_after M P)
-unfolding opening_of
+    cycle_start_of M P ≡ opening_with M (length P) (active_set M P) (fresh_set P) (base_counts M P) (running_transfer P) (mode_after M P) (was_damaged P) (context_after M P)
+unfolding cycle_start_of
 opening_is M P = refl
 
-opening_bare : (M : MissionValue) (P : Past) → opening_of M (bare P) ≡ opening_of M P
+opening_bare : (M : MissionValue) (P : Past) → cycle_start_of M (bare P) ≡ cycle_start_of M P
 opening_bare M P =
     let B : Past = bare P in
     opening_is M B
@@ -140,8 +140,8 @@ module _ (P R : Past) (same : HaveSameFacts P R) where
   pub same_size : length P ≡ length R
   same_size = same_of length size_bare
 
-  pub same_opening : (M : MissionValue) → opening_of M P ≡ opening_of M R
-  same_opening M = same_of (opening_of M) (opening_bare M)
+  pub same_opening : (M : MissionValue) → cycle_start_of M P ≡ cycle_start_of M R
+  same_opening M = same_of (cycle_start_of M) (opening_bare M)
 
   pub same_held : (q : Channel) → held_start q P ≡ held_start q R
   same_held q = same_of (held_start q) (held_bare q)

@@ -29,7 +29,7 @@ use Rattle.guards_model.proofs.SlotTests.{up_to-trans}
 use Rattle.guards_laws.proofs.CycleParts.{by_channel-same}
 use Rattle.guards_laws.proofs.SlotsStand.{owed_alike}
 use Rattle.script_laws.proofs.SamePast.{same_size, same_opening, same_held, same_source, same_plan, same_ideal, same_remaining}
-use Rattle.script_laws.proofs.Sent.{is_sent, IsDueThrough, carry, nothing_if, found_if}
+use Rattle.script_laws.proofs.CarriesDue.{is_sent, IsDueThrough, carry, nothing_if, found_if}
 
 -- ---- entries that the script makes
 

@@ -5,7 +5,7 @@ use Rattle.guards_model.specs.declared.Slot.TheVariants.{Output}
 use Rattle.guards_model.specs.Missions.{MissionValue, bus_rules}
 use Rattle.guards_model.specs.Network.{Log}
 use Rattle.guards_model.specs.ScriptedBus.{IsScripted}
-use Rattle.guards_model.specs.Texts.{text_of}
+use Rattle.guards_model.specs.Texts.{text_of_parts}
 use Rattle.guards_runs.specs.Cycles.{Past, next_cycle, cycles_before}
 use Rattle.guards_runs.specs.Promises.{EachCycle, IsRun, HasRun}
 use Rattle.guards_runs.specs.Report.{report_parts, report}
@@ -42,7 +42,7 @@ module _ (M : MissionValue) (L K : Log) (script_l : AllByRecursion (IsScripted (
   whole_reports_alike run_l run_k =
       let P : Past = cycles_before M L M.cycles in
       let R : Past = cycles_before M K M.cycles in
-      ap text_of
+      ap text_of_parts
       (same_parts M P R
       (record {
         stops = run_l.unstopped ∙ sym run_k.unstopped;

@@ -13,7 +13,7 @@ use Rattle.guards_model.proofs.Tables.{has-channels_where}
 use Rattle.guards_runs.specs.Disturbed.{differs_from, is_charge}
 use Rattle.icn_bus.proofs.Switches.{where_same}
 use Rattle.slot_traffic.specs.declared.piece.Piece.{Piece}
-use Rattle.slot_traffic.specs.Pieces.{PieceValue, ParcelValue, entry_by, entries_of, entries_of_all}
+use Rattle.slot_traffic.specs.Pieces.{PieceValue, ParcelValue, entry_by, entries_of_parcel, entries_of_all}
 use Rattle.slot_traffic.specs.Arrivals.{IsMarked, is_changed, piece_value}
 
 -- the pieces that are kept as changed are those that differ
@@ -64,7 +64,7 @@ one_more : (c : ℕ) (slot : Slot) (q : Channel) (parcel : ParcelValue) (rest : 
     charges c slot (parcel ∷ rest) q
     ≡ (((parcel.frame.sender == q) && list_any (λ (p : PieceValue). differs_from (spelling parcel.frame) p.delivered) parcel.pieces) || charges c slot rest q)
 one_more c slot q parcel rest =
-    list_any-append (is_charge c slot q) (entries_of c slot parcel) (entries_of_all c slot rest)
+    list_any-append (is_charge c slot q) (entries_of_parcel c slot parcel) (entries_of_all c slot rest)
     ∙ ap (λ b. b || charges c slot rest q) (one_sender c slot q parcel.frame.sender (spelling parcel.frame) parcel.pieces)
 
 -- a parcel whose pieces all arrived as sent charges nobody

@@ -1,6 +1,6 @@
 pub mod Charging
-pub mod Finding
-pub mod Reading
-pub mod Carrying
+pub mod EntryFound
+pub mod PiecesRead
+pub mod PieceCarriedLemmas
 pub mod Members
-pub mod Ranges
+pub mod CountedInRange

@@ -38,10 +38,10 @@ reading_value frame Own = Some frame
 reading_value frame (Other found) = found
 
 -- a frame that was read has a spelling
-abbrev pub IsInRange : Reading → Type 0
-IsInRange Own = ⊤
-IsInRange (Other None) = ⊤
-IsInRange (Other (Some frame)) = IsTrue (in_range frame)
+abbrev pub IsReadingInRange : Reading → Type 0
+IsReadingInRange Own = ⊤
+IsReadingInRange (Other None) = ⊤
+IsReadingInRange (Other (Some frame)) = IsTrue (in_range frame)
 
 -- what each of the pieces spells, if anything, is a frame in range
 abbrev pub SpellInRange : ParcelValue → Type 0
@@ -50,5 +50,5 @@ SpellInRange parcel = AllByRecursion (λ p. IfSome (spelled_by p) (λ frame. IsT
 -- a frame was read of each piece, if it spells one
 pub record AreRead (parcel : ParcelValue) (readings : List Reading) : Type 0 where
   pub same : map (reading_value parcel.frame) readings ≡ map spelled_by parcel.pieces
-  pub range : AllByRecursion IsInRange readings
+  pub range : AllByRecursion IsReadingInRange readings
   pub spelled : SpellInRange parcel

@@ -5,7 +5,7 @@ use Rattle.guards_model.specs.Channels.{Channel}
 use Rattle.guards_model.specs.Missions.{FormatValue}
 use Rattle.guards_model.specs.Frames.{FrameValue, spelling}
 use Rattle.guards_model.specs.Fields.{frame_in}
-use Rattle.guards_model.specs.Network.{EntryValue, Log}
+use Rattle.guards_model.specs.Network.{EntryValue, Log, TrafficValue}
 
 -- what was delivered to a receiver
 pub record PieceValue : Type 0 where
@@ -22,21 +22,15 @@ abbrev pub entry_by : ℕ → Slot → Channel → List ℕ → PieceValue → E
 entry_by c slot from sent p =
     record { cycle = c; slot = slot; from = from; to = p.to; sent = sent; delivered = p.delivered }
 
-abbrev pub entries_of : ℕ → Slot → ParcelValue → Log
-entries_of c slot parcel = map (entry_by c slot parcel.frame.sender (spelling parcel.frame)) parcel.pieces
+abbrev pub entries_of_parcel : ℕ → Slot → ParcelValue → Log
+entries_of_parcel c slot parcel = map (entry_by c slot parcel.frame.sender (spelling parcel.frame)) parcel.pieces
 
 abbrev pub entries_of_all : ℕ → Slot → List ParcelValue → Log
-entries_of_all c slot parcels = flat_map (entries_of c slot) parcels
+entries_of_all c slot parcels = flat_map (entries_of_parcel c slot) parcels
 
 -- the frame that a piece spells
 abbrev pub spelled_by : PieceValue → Option FrameValue
 spelled_by p = option_and_then frame_in p.delivered
-
--- what contracts see of the traffic of a slot: its entries, in the order in which they were carried
-pub record TrafficValue : Type 0 where
-  pub cycle : ℕ
-  pub slot : Slot
-  pub entries : Log
 
 -- the traffic of a slot that was read by this format
 pub record ArrivedValue : Type 0 where

@@ -4,22 +4,13 @@ use Rattle.std.specs.List.{AllZip, AllByRecursion}
 use Rattle.guards_model.specs.declared.Slot.{Slot}
 use Rattle.guards_model.specs.BusRules.{RuleValue}
 use Rattle.guards_model.specs.Channels.{Channel, without}
-use Rattle.guards_model.specs.Network.{EntryValue, Log}
-use Rattle.guards_runs.specs.Due.{Carry}
-use Rattle.slot_traffic.specs.Pieces.{TrafficValue}
+use Rattle.guards_model.specs.Network.{EntryValue, Log, TrafficValue}
+use Rattle.guards_runs.specs.Due.{Carry, IsCarryOf}
 
 -- the carries of a sender to these receivers, none to itself
 abbrev pub carries_from : ℕ → Slot → Channel → List ℕ → List Carry
 carries_from c slot from receivers =
     map (λ to. record { cycle = c; slot = slot; from = from; to = to }) (without receivers (from ∷ []))
-
--- the entry is of this carry, and these bytes were sent
-pub record IsCarryOf (sent : List ℕ) (carry : Carry) (entry : EntryValue) : Type 0 where
-  pub cycle_is : entry.cycle ≡ carry.cycle
-  pub slot_is : entry.slot ≡ carry.slot
-  pub from_is : entry.from ≡ carry.from
-  pub to_is : entry.to ≡ carry.to
-  pub sent_is : entry.sent ≡ sent
 
 -- The log grew by one entry for each of these carries, in order, each with these bytes and as the bus may make it.
 pub record AreCarried (may : List RuleValue → EntryValue → Type 0) (script : List RuleValue) (old new : Log)
@@ -29,14 +20,14 @@ pub record AreCarried (may : List RuleValue → EntryValue → Type 0) (script :
   pub allowed : AllByRecursion (may script) now
 
 -- these were carried, and the traffic grew by the same entries
-pub record Sends (may : List RuleValue → EntryValue → Type 0) (script : List RuleValue) (old new : Log)
+pub record SendsFrame (may : List RuleValue → EntryValue → Type 0) (script : List RuleValue) (old new : Log)
     (sent : List ℕ) (carries : List Carry) (before after : TrafficValue) : Type 0 where
   pub now : Log
   pub carried : AreCarried may script old new sent carries now
   pub traffic : after ≡ record { cycle = before.cycle; slot = before.slot; entries = before.entries ++ now }
 
 -- the first few of these were carried, and the traffic grew by the same entries
-pub record SendsSome (may : List RuleValue → EntryValue → Type 0) (script : List RuleValue) (old new : Log)
+pub record SendsFirstOfFrame (may : List RuleValue → EntryValue → Type 0) (script : List RuleValue) (old new : Log)
     (sent : List ℕ) (carries : List Carry) (before after : TrafficValue) : Type 0 where
   pub now : Log
   pub carried : AreCarried may script old new sent (take (length now) carries) now

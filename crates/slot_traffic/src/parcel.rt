@@ -5,7 +5,7 @@ ghost use Rattle.std.specs.Option.{option_copied};
 ghost use Rattle.guards_model.specs.Frames.{FrameValue, in_range, spelling};
 ghost use Rattle.guards_model.specs.Fields.{frame_in};
 ghost use Rattle.guards_runs.specs.Disturbed.{differs_from};
-ghost use Rattle.slot_traffic.specs.Arrivals.{AreRead, IsInRange, IsMarked, delivered_of, is_changed, piece_value, reading_value};
+ghost use Rattle.slot_traffic.specs.Arrivals.{AreRead, IsReadingInRange, IsMarked, delivered_of, is_changed, piece_value, reading_value};
 ghost use Rattle.slot_traffic.specs.Pieces.{spelled_by};
 
 use crate::piece::{Arrival, Piece, Reading};
@@ -69,7 +69,7 @@ fn goes_to(pieces: &[Piece], to: u8) -> bool
 fn reading(alloc: Global, arrival: &Arrival) -> Result<Reading, AllocError>
     ensures same { IfOk result (λ reading. (f : FrameValue) → IsTrue (in_range f) →
         reading_value f reading ≡ option_and_then frame_in (delivered_of (spelling f) arrival.now)) }
-    ensures range { IfOk result IsInRange }
+    ensures range { IfOk result IsReadingInRange }
 {
     match arrival {
         Arrival::AsSent => Ok(Reading::Own),
@@ -82,7 +82,7 @@ fn reading(alloc: Global, arrival: &Arrival) -> Result<Reading, AllocError>
 fn readings(alloc: Global, pieces: &[Piece]) -> Result<Sequence<Reading>, AllocError>
     ensures same { IfOk result (λ readings. (f : FrameValue) → IsTrue (in_range f) →
         map (reading_value f) readings.items ≡ map spelled_by (map (piece_value (spelling f)) pieces.now)) }
-    ensures range { IfOk result (λ readings. AllByRecursion IsInRange readings.items) }
+    ensures range { IfOk result (λ readings. AllByRecursion IsReadingInRange readings.items) }
 {
     let mut readings = Sequence::new(alloc);
     for piece in pieces {
@@ -95,7 +95,7 @@ fn readings(alloc: Global, pieces: &[Piece]) -> Result<Sequence<Reading>, AllocE
 /// The frame of a reading.
 fn frame_of<'a>(own: &'a Frame, reading: &'a Reading) -> Option<&'a Frame>
     ensures same { option_copied result ≡ reading_value own.now reading.now }
-    ensures range { IsTrue (in_range own.now) → IsInRange reading.now → IfSome result (λ frame. IsTrue (in_range frame.now)) }
+    ensures range { IsTrue (in_range own.now) → IsReadingInRange reading.now → IfSome result (λ frame. IsTrue (in_range frame.now)) }
 {
     match reading {
         Reading::Own => Some(own),
@@ -112,7 +112,7 @@ fn first_frame<'a>(
 ) -> Option<&'a Frame>
     ensures same { (sent : List ℕ) → map (reading_value own.now) readings.now ≡ map spelled_by (map (piece_value sent) pieces.now) →
         option_copied result ≡ option_and_then spelled_by (find (λ p. p.to == to) (map (piece_value sent) pieces.now)) }
-    ensures range { IsTrue (in_range own.now) → AllByRecursion IsInRange readings.now →
+    ensures range { IsTrue (in_range own.now) → AllByRecursion IsReadingInRange readings.now →
         IfSome result (λ frame. IsTrue (in_range frame.now)) }
 {
     match pieces {

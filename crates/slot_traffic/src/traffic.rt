@@ -12,7 +12,7 @@ ghost use Rattle.icn_frames.specs.Bodies.{view_body};
 ghost use Rattle.slot_traffic.specs.Arrivals.{IsMarked, SpellInRange, piece_value};
 ghost use Rattle.slot_traffic.specs.Pieces.{entry_by, entries_of_all};
 ghost use Rattle.slot_traffic.specs.Receiving.{receiver_numbers};
-ghost use Rattle.slot_traffic.specs.Sending.{AreCarried, Sends, SendsSome, carries_from};
+ghost use Rattle.slot_traffic.specs.Sending.{AreCarried, SendsFrame, SendsFirstOfFrame, carries_from};
 
 use crate::format::Format;
 use crate::opened::Opened;
@@ -36,7 +36,8 @@ pub struct Traffic {
 }
 
 impl Model for Traffic {
-    ghost use Rattle.slot_traffic.specs.Pieces.{TrafficValue, entries_of_all};
+    ghost use Rattle.slot_traffic.specs.Pieces.{entries_of_all};
+    ghost use Rattle.guards_model.specs.Network.{TrafficValue};
 
     ghost Value = { TrafficValue };
 
@@ -181,9 +182,9 @@ impl Traffic {
     ) -> Result<(), AllocError>
         requires { IsTrue (in_range frame) }
         ensures script { B.script bus.new ≡ B.script bus.old }
-        ensures sent { OnOk result (Sends B.may (B.script bus.old) (B.log bus.old) (B.log bus.new) (spelling frame)
+        ensures sent { OnOk result (SendsFrame B.may (B.script bus.old) (B.log bus.old) (B.log bus.new) (spelling frame)
             (carries_from self.old.cycle self.old.slot frame.sender (receiver_numbers receivers)) self.old self.new) }
-        ensures some { OnErr result (SendsSome B.may (B.script bus.old) (B.log bus.old) (B.log bus.new) (spelling frame)
+        ensures some { OnErr result (SendsFirstOfFrame B.may (B.script bus.old) (B.log bus.old) (B.log bus.new) (spelling frame)
             (carries_from self.old.cycle self.old.slot frame.sender (receiver_numbers receivers)) self.old self.new) }
     {
         self.parcels.reserve(1)?;

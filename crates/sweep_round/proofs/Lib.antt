@@ -1,2 +1,2 @@
 pub mod RoundSteps
-pub mod Endings
+pub mod RoundEnded

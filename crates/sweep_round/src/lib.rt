@@ -6,10 +6,12 @@ mod ending;
 mod start;
 mod trail;
 mod turns;
+mod work;
 mod workers;
 
 pub use ending::end_round;
 pub use start::RoundStart;
 pub use trail::{Finished, Trail};
 pub use turns::Round;
+pub use work::{WorkedRound, work_round};
 pub use workers::{Crew, work_beside, work_ended};

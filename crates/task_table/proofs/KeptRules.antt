@@ -11,7 +11,7 @@ use Rattle.guards_model.proofs.ListTests.{weaken, place_passes, all-append}
 use Rattle.task_table.specs.declared.fault.TableFault.{TableFault}
 use Rattle.task_table.specs.declared.fault.TableFault.TheVariants.{Tasks, Writes, Block, Set, Rows, Row}
 use Rattle.task_table.specs.TableFaults.{fault_or, first_fault, write_fault, task_fault, row_fault, table_fault}
-use Rattle.task_table.specs.Tables.{no_task, task_at, named_tasks, names_tasks}
+use Rattle.task_table.specs.Tables.{no_task, nth_task, named_tasks, names_tasks}
 
 -- neither of two is a fault
 neither : (a b : Option TableFault) → fault_or a b ≡ None → (a ≡ None) × (b ≡ None)
@@ -79,7 +79,7 @@ turn_named_there count rows c h = place_passes (names_tasks count) rows (c % len
 all_flat : (P : WriteValue → Bool) (tasks : List TaskValue) (row : List ℕ) → list_all (λ t. list_all P t.writes) tasks ≡ true → list_all P (writes_of (named_tasks tasks row)) ≡ true
 all_flat P tasks [] h = refl
 all_flat P tasks (place ∷ row) h =
-    all-append P (task_at tasks place).writes (writes_of (named_tasks tasks row))
+    all-append P (nth_task tasks place).writes (writes_of (named_tasks tasks row))
     (place_passes (λ t. list_all P t.writes) tasks place no_task refl h) (all_flat P tasks row h)
 
 slice_passes : (P : WriteValue → Bool) (ws : List WriteValue) (k : ℕ) (w : WriteValue) → slice_get ws k ≡ Some w → list_all P ws ≡ true → P w ≡ true

@@ -11,7 +11,7 @@ use Rattle.guards_model.specs.Tasks.{WriteValue, TaskValue, writes_of}
 use Rattle.guards_model.specs.Missions.{row_in_turn}
 use Rattle.guards_model.proofs.ListTests.{place_passes}
 use Rattle.task_table.proofs.Faults.{dropped}
-use Rattle.task_table.specs.Tables.{no_task, task_at, named_tasks, names_tasks}
+use Rattle.task_table.specs.Tables.{no_task, nth_task, named_tasks, names_tasks}
 
 -- the writes of the tasks that a part of a row names
 abbrev pub named_writes : List TaskValue → List ℕ → List WriteValue
@@ -23,18 +23,18 @@ blocks_in writes = map (λ write. write.block) writes
 
 -- one more task of the row
 pub named_more : (tasks : List TaskValue) (row : List ℕ) (at d : ℕ) → at < length row →
-    named_writes tasks (take (at + 1) row) ≡ named_writes tasks (take at row) ++ (task_at tasks (get_or row at d)).writes
+    named_writes tasks (take (at + 1) row) ≡ named_writes tasks (take at row) ++ (nth_task tasks (get_or row at d)).writes
 named_more tasks row at d low =
     ap (named_writes tasks) (take_more row at d low)
-    ∙ ap writes_of (map-append (task_at tasks) (take at row) (get_or row at d ∷ []))
-    ∙ flat_map-append (λ t. t.writes) (named_tasks tasks (take at row)) (task_at tasks (get_or row at d) ∷ [])
-    ∙ ap (λ ws. named_writes tasks (take at row) ++ ws) (append-nil (task_at tasks (get_or row at d)).writes)
+    ∙ ap writes_of (map-append (nth_task tasks) (take at row) (get_or row at d ∷ []))
+    ∙ flat_map-append (λ t. t.writes) (named_tasks tasks (take at row)) (nth_task tasks (get_or row at d) ∷ [])
+    ∙ ap (λ ws. named_writes tasks (take at row) ++ ws) (append-nil (nth_task tasks (get_or row at d)).writes)
 
 -- the rest of the row begins with the task at its place
 pub named_rest : (tasks : List TaskValue) (row : List ℕ) (at d : ℕ) → at < length row →
-    named_writes tasks (drop at row) ≡ (task_at tasks (get_or row at d)).writes ++ named_writes tasks (drop (at + 1) row)
+    named_writes tasks (drop at row) ≡ (nth_task tasks (get_or row at d)).writes ++ named_writes tasks (drop (at + 1) row)
 named_rest tasks row at d low =
-    ap (named_writes tasks) (drop-cons row at d low) ∙ ap (λ n. (task_at tasks (get_or row at d)).writes ++ named_writes tasks (drop n row)) next
+    ap (named_writes tasks) (drop-cons row at d low) ∙ ap (λ n. (nth_task tasks (get_or row at d)).writes ++ named_writes tasks (drop n row)) next
   where
     next : suc at ≡ at + 1
     next = omega arith
@@ -56,18 +56,18 @@ slice_in_rest (x ∷ xs) ys (suc k) h = slice_in_rest xs ys k (omega (arith, h))
     less k n = omega arith
 
 -- the write is one of this task
-pub write_here : (tasks : List TaskValue) (row : List ℕ) (at d k : ℕ) → at < length row → k < length (task_at tasks (get_or row at d)).writes →
-    slice_get (named_writes tasks (drop at row)) k ≡ slice_get (task_at tasks (get_or row at d)).writes k
+pub write_here : (tasks : List TaskValue) (row : List ℕ) (at d k : ℕ) → at < length row → k < length (nth_task tasks (get_or row at d)).writes →
+    slice_get (named_writes tasks (drop at row)) k ≡ slice_get (nth_task tasks (get_or row at d)).writes k
 write_here tasks row at d k low h =
     ap (λ ws. slice_get ws k) (named_rest tasks row at d low)
-    ∙ slice_in_first (task_at tasks (get_or row at d)).writes (named_writes tasks (drop (at + 1) row)) k h
+    ∙ slice_in_first (nth_task tasks (get_or row at d)).writes (named_writes tasks (drop (at + 1) row)) k h
 
 -- the write is one of a later task
-pub write_later : (tasks : List TaskValue) (row : List ℕ) (at d k : ℕ) → at < length row → length (task_at tasks (get_or row at d)).writes ≤ k →
-    slice_get (named_writes tasks (drop at row)) k ≡ slice_get (named_writes tasks (drop (at + 1) row)) (k - length (task_at tasks (get_or row at d)).writes)
+pub write_later : (tasks : List TaskValue) (row : List ℕ) (at d k : ℕ) → at < length row → length (nth_task tasks (get_or row at d)).writes ≤ k →
+    slice_get (named_writes tasks (drop at row)) k ≡ slice_get (named_writes tasks (drop (at + 1) row)) (k - length (nth_task tasks (get_or row at d)).writes)
 write_later tasks row at d k low h =
     ap (λ ws. slice_get ws k) (named_rest tasks row at d low)
-    ∙ slice_in_rest (task_at tasks (get_or row at d)).writes (named_writes tasks (drop (at + 1) row)) k h
+    ∙ slice_in_rest (nth_task tasks (get_or row at d)).writes (named_writes tasks (drop (at + 1) row)) k h
 
 -- no write is left behind the last task
 pub none_past : (tasks : List TaskValue) (row : List ℕ) (at k : ℕ) → length row ≤ at → slice_get (named_writes tasks (drop at row)) k ≡ None
@@ -89,18 +89,18 @@ named_there count (p ∷ row) (suc at) d h low = named_there count row at d (sec
 
 -- the task that is read at a place of a row
 pub task_read : (tasks : List TaskValue) (row : List ℕ) (at : ℕ) (task : TaskValue) → names_tasks (length tasks) row ≡ true → at < length row →
-    task ≡ get_or tasks (get_or row at 0) task → task_at tasks (get_or row at 0) ≡ task
+    task ≡ get_or tasks (get_or row at 0) task → nth_task tasks (get_or row at 0) ≡ task
 task_read tasks row at task named low is =
     ap (λ o. unwrap_or o no_task) (slice_get_read tasks (length tasks) (get_or row at 0) task refl (named_there (length tasks) row at 0 named low) is)
 
 -- a task by its place
-pub task_is : (tasks : List TaskValue) (place : ℕ) → task_at tasks place ≡ get_or tasks place no_task
+pub task_is : (tasks : List TaskValue) (place : ℕ) → nth_task tasks place ≡ get_or tasks place no_task
 task_is tasks place = unwrap_or-slice_get tasks place no_task
 
 -- a task at a place has no more writes than each task has
-pub few_writes : (tasks : List TaskValue) (place most : ℕ) → list_all (λ t. nat_le (length t.writes) most) tasks ≡ true → length (task_at tasks place).writes ≤ most
+pub few_writes : (tasks : List TaskValue) (place most : ℕ) → list_all (λ t. nat_le (length t.writes) most) tasks ≡ true → length (nth_task tasks place).writes ≤ most
 few_writes tasks place most h =
-    leb-true (length (task_at tasks place).writes) most (place_passes (λ t. nat_le (length t.writes) most) tasks place no_task (le-leb 0 most (omega arith)) h)
+    leb-true (length (nth_task tasks place).writes) most (place_passes (λ t. nat_le (length t.writes) most) tasks place no_task (le-leb 0 most (omega arith)) h)
 
 -- the row in turn of the tasks, by the row in turn of their places
 pub turn_named : (tasks : List TaskValue) (rows : List (List ℕ)) (c : ℕ) → row_in_turn (map (named_tasks tasks) rows) c ≡ named_tasks tasks (row_in_turn rows c)

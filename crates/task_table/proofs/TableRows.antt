@@ -9,7 +9,7 @@ use Rattle.guards_base.specs.Seen.{Seen}
 use Rattle.guards_model.specs.Tasks.{TaskValue, writes_of}
 use Rattle.guards_model.specs.Missions.{row_in_turn}
 use Rattle.guards_model.proofs.BoolTests.{both}
-use Rattle.task_table.specs.Tables.{no_task, task_at, named_tasks, names_tasks, row_at, places_of, table_of, table_writes, TableValue}
+use Rattle.task_table.specs.Tables.{no_task, nth_task, named_tasks, names_tasks, tasks_in_row, places_of, table_naming, table_writes, TableValue}
 use Rattle.task_table.proofs.RowWrites.{turn_named}
 use Rattle.task_table.proofs.KeptRules.{turn_named_there}
 
@@ -20,7 +20,7 @@ same_some : {A : Type 0} (x y : A) → Some x ≡ Some y → x ≡ y
 same_some x y h = cc
 
 -- the tasks of a row
-pub named_at : (tasks : List TaskValue) (rows : List (Seen ℕ)) (n : ℕ) (row : Seen ℕ) → slice_get rows n ≡ Some row → row_at (map (named_tasks tasks) (places_of rows)) n ≡ named_tasks tasks row.items
+pub named_at : (tasks : List TaskValue) (rows : List (Seen ℕ)) (n : ℕ) (row : Seen ℕ) → slice_get rows n ≡ Some row → tasks_in_row (map (named_tasks tasks) (places_of rows)) n ≡ named_tasks tasks row.items
 named_at tasks [] n row h = absurd cc
 named_at tasks (r ∷ rows) zero row h = ap (λ (x : Seen ℕ). named_tasks tasks x.items) (same_some r row h)
 named_at tasks (r ∷ rows) (suc n) row h = named_at tasks rows n row h
@@ -40,11 +40,11 @@ place_there count (q ∷ row) (suc k) p h all = place_there count row k p h (bot
 -- a task of a row, by the place that the row names
 pub named_task : (tasks : List TaskValue) (row : List ℕ) (k p : ℕ) (task : TaskValue) → slice_get row k ≡ Some p → slice_get tasks p ≡ Some task → slice_get (named_tasks tasks row) k ≡ Some task
 named_task tasks row k p task here there =
-    slice_get-map (task_at tasks) row k ∙ ap (option_map (task_at tasks)) here ∙ ap (λ o. Some (unwrap_or o no_task)) there
+    slice_get-map (nth_task tasks) row k ∙ ap (option_map (nth_task tasks)) here ∙ ap (λ o. Some (unwrap_or o no_task)) there
 
 -- the writes of a cycle, by the row in turn that is lent
 pub writes_in_turn : (tasks ts : List TaskValue) (rows : List (Seen ℕ)) (row : List ℕ) (blocks width cycle : ℕ) (table : TableValue) →
-    ts ≡ tasks → row ≡ row_in_turn (places_of rows) cycle → table_of tasks (places_of rows) blocks width ≡ table → writes_of (named_tasks ts row) ≡ table_writes table cycle
+    ts ≡ tasks → row ≡ row_in_turn (places_of rows) cycle → table_naming tasks (places_of rows) blocks width ≡ table → writes_of (named_tasks ts row) ≡ table_writes table cycle
 writes_in_turn tasks ts rows row blocks width cycle table a b v =
     ap (λ ts. writes_of (named_tasks ts row)) a ∙ ap (λ r. writes_of (named_tasks tasks r)) b ∙ sym (ap writes_of (turn_named tasks (places_of rows) cycle))
     ∙ ap (λ t. table_writes t cycle) v

@@ -16,15 +16,15 @@ abbrev pub no_task : TaskValue
 no_task = record { name = []; writes = [] }
 
 -- the task at a place, and the tasks at the places that a row names
-abbrev pub task_at : List TaskValue → ℕ → TaskValue
-task_at tasks place = unwrap_or (slice_get tasks place) no_task
+abbrev pub nth_task : List TaskValue → ℕ → TaskValue
+nth_task tasks place = unwrap_or (slice_get tasks place) no_task
 
 abbrev pub named_tasks : List TaskValue → List ℕ → List TaskValue
-named_tasks tasks row = map (task_at tasks) row
+named_tasks tasks row = map (nth_task tasks) row
 
 -- the tasks of a row
-abbrev pub row_at : List (List TaskValue) → ℕ → List TaskValue
-row_at rows row = unwrap_or (slice_get rows row) []
+abbrev pub tasks_in_row : List (List TaskValue) → ℕ → List TaskValue
+tasks_in_row rows row = unwrap_or (slice_get rows row) []
 
 -- the writes of a cycle, task by task
 abbrev pub table_writes : TableValue → ℕ → List WriteValue
@@ -43,5 +43,5 @@ abbrev pub places_of : List (Seen ℕ) → List (List ℕ)
 places_of rows = map (λ row. row.items) rows
 
 -- the table of these tasks and of rows that name them
-abbrev pub table_of : List TaskValue → List (List ℕ) → ℕ → ℕ → TableValue
-table_of tasks rows blocks width = record { rows = map (named_tasks tasks) rows; blocks = blocks; width = width }
+abbrev pub table_naming : List TaskValue → List (List ℕ) → ℕ → ℕ → TableValue
+table_naming tasks rows blocks width = record { rows = map (named_tasks tasks) rows; blocks = blocks; width = width }

@@ -7,7 +7,7 @@ ghost use Rattle.guards_model.specs.JoinBound.{most_blocks};
 ghost use Rattle.guards_model.specs.Tasks.{written};
 ghost use Rattle.context_blocks.specs.BlockSets.{blocks_where};
 ghost use Rattle.task_table.specs.TableFaults.{table_fault};
-ghost use Rattle.task_table.specs.Tables.{places_of, table_of, table_writes, row_at, expressions_fit, names_tasks};
+ghost use Rattle.task_table.specs.Tables.{places_of, table_naming, table_writes, tasks_in_row, expressions_fit, names_tasks};
 
 use crate::checks::table_fault;
 use crate::fault::TableFault;
@@ -27,17 +27,17 @@ pub struct Table {
 }
 
 impl Model for Table {
-    ghost use Rattle.task_table.specs.Tables.{TableValue, table_of, places_of};
-    ghost use Rattle.task_table.specs.Kept.{IsKept};
+    ghost use Rattle.task_table.specs.Tables.{TableValue, table_naming, places_of};
+    ghost use Rattle.task_table.specs.Kept.{IsTableKept};
     ghost use Rattle.task_table.specs.Codes.{coded_table};
 
     ghost Value = { TableValue };
 
     ghost coded = { coded_table };
 
-    ghost view = { λ table. table_of table.tasks.items (places_of table.rows.items) table.blocks table.width };
+    ghost view = { λ table. table_naming table.tasks.items (places_of table.rows.items) table.blocks table.width };
 
-    ghost invariant = { λ table. IsKept table.tasks.items (places_of table.rows.items) table.blocks table.width };
+    ghost invariant = { λ table. IsTableKept table.tasks.items (places_of table.rows.items) table.blocks table.width };
 }
 
 impl Table {
@@ -47,7 +47,7 @@ impl Table {
         requires fit { IsTrue (list_all (expressions_fit blocks width) tasks.items) }
         requires named { IsTrue (list_all (names_tasks (length tasks.items)) (places_of rows.items)) }
         ensures answer { MatchResult result
-            (λ table. (table_fault blocks tasks.items (places_of rows.items) ≡ None) × (table ≡ table_of tasks.items (places_of rows.items) blocks width))
+            (λ table. (table_fault blocks tasks.items (places_of rows.items) ≡ None) × (table ≡ table_naming tasks.items (places_of rows.items) blocks width))
             (λ fault. table_fault blocks tasks.items (places_of rows.items) ≡ Some fault) }
     {
         match table_fault(&tasks, &rows, blocks) {
@@ -73,7 +73,7 @@ impl Table {
     /// The number of tasks of a row.
     pub fn row_len(&self, row: u16) -> u16
         requires { row < length self.now.rows }
-        ensures count { result ≡ length (row_at self.now.rows row) }
+        ensures count { result ≡ length (tasks_in_row self.now.rows row) }
         ensures few { result ≤ 16 }
     {
         self.rows.get(row as usize).len() as u16
@@ -82,8 +82,8 @@ impl Table {
     /// Lends a task of a row.
     pub fn task(&self, row: u16, place: u16) -> &Task
         requires row { row < length self.now.rows }
-        requires place { place < length (row_at self.now.rows row) }
-        ensures { slice_get (row_at self.now.rows row) place ≡ Some result.now }
+        requires place { place < length (tasks_in_row self.now.rows row) }
+        ensures { slice_get (tasks_in_row self.now.rows row) place ≡ Some result.now }
     {
         let number = *self.rows.get(row as usize).get(place as usize);
         self.tasks.get(number as usize)

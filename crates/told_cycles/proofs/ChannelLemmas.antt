@@ -18,8 +18,8 @@ use Rattle.guards_model.specs.Texts.{LineValue, RecordValue, TraceValue}
 use Rattle.guards_model.proofs.AscendingLists.{every_is_set, member-channel}
 use Rattle.guards_model.proofs.BoolTests.{both}
 use Rattle.guards_model.proofs.Tables.{at-by_channel, every_has, has-filter}
-use Rattle.report_lines.specs.Lines.{is_empty}
-use Rattle.guards_audit.specs.Told.{Told, next_number, no_line, first_line, active_told, counts_told, context_told, with_line, with_steps}
+use Rattle.guards_audit.specs.Lines.{is_empty}
+use Rattle.guards_audit.specs.Told.{Told, next_cycle_number, blank_line, first_line, active_told, counts_told, context_told, with_line, with_steps}
 use Rattle.guards_audit.specs.Tests.{same_vote, same_votes, says_same, first_fits, says_fit, counts_fit, votes_fit}
 use Rattle.guards_audit.specs.Consistency as place
 use Rattle.told_cycles.specs.declared.auditor.Auditor.{Auditor}
@@ -94,9 +94,9 @@ module _ (M : MissionValue) (told : Told) (r : RecordValue) (l : LineValue) wher
   context_by : List LineValue → ContextValue
   context_by lines =
       cond (is_empty lines) (context_told M told)
-      (whole (cycle_writes M (next_number told)) (context_told M told) (next_number told) (unwrap_or (slice_get lines 0) no_line).inputs)
+      (whole (cycle_writes M (next_cycle_number told)) (context_told M told) (next_cycle_number told) (unwrap_or (slice_get lines 0) blank_line).inputs)
 
-  pub amid_first : r.lines ≡ [] → context_amid M told (with_line r l) ≡ whole (cycle_writes M (next_number told)) (context_told M told) (next_number told) l.inputs
+  pub amid_first : r.lines ≡ [] → context_amid M told (with_line r l) ≡ whole (cycle_writes M (next_cycle_number told)) (context_told M told) (next_cycle_number told) l.inputs
   unfolding context_by
   amid_first e = ap (λ ls. context_by (ls ++ l ∷ [])) e
 
@@ -114,11 +114,11 @@ module _ (M : MissionValue) (told : Told) (r : RecordValue) (l : LineValue) wher
   amid_later h = later_by r.lines h
 
   pub says_first : r.lines ≡ [] → says_fit M told r l ≡ first_fits M told r l
-  says_first e = ap (λ (ls : List LineValue). cond (is_empty ls) (first_fits M told r l) (says_same l (unwrap_or (slice_get ls 0) no_line))) e
+  says_first e = ap (λ (ls : List LineValue). cond (is_empty ls) (first_fits M told r l) (says_same l (unwrap_or (slice_get ls 0) blank_line))) e
 
   -- a later line is held to the first
   says_by : (f : LineValue) (lines : List LineValue) → Some (shown_in M f) ≡ slice_get lines 0 →
-      (is_empty lines ≡ false) × (cond (is_empty lines) (first_fits M told r l) (says_same l (unwrap_or (slice_get lines 0) no_line)) ≡ says_same l (shown_in M f))
+      (is_empty lines ≡ false) × (cond (is_empty lines) (first_fits M told r l) (says_same l (unwrap_or (slice_get lines 0) blank_line)) ≡ says_same l (shown_in M f))
   says_by f [] h = no_some (shown_in M f) (sym h)
   says_by f (x ∷ lines) h = (refl, ap (says_same l) (sym (the_same (shown_in M f) x h)))
 
@@ -168,12 +168,12 @@ unfolding by_channel
 seven_counts M active judged base = refl
 
 pub first_facts : (M : MissionValue) (told : Told) (r : RecordValue) (l : LineValue) → M.rules.channels ≤ 7 → first_fits M told r l ≡ true →
-    HasSizes M l × (l.votes ≡ map (λ w. Some w) (output_words M (whole (cycle_writes M (next_number told)) (context_told M told) (next_number told) l.inputs)))
+    HasSizes M l × (l.votes ≡ map (λ w. Some w) (output_words M (whole (cycle_writes M (next_cycle_number told)) (context_told M told) (next_cycle_number told) l.inputs)))
 first_facts M told r l few h =
     let a = both (length l.inputs == M.width && list_all (has r.active) l.judged) (counts_fit M told r l && votes_fit M told l) h in
     let b = both (counts_fit M told r l) (votes_fit M told l) a.1 in
     let counts : List ℕ = counts_of M.rules.law M.rules.keep M.rules.decrement r.active l.judged (counts_told M told) in
-    let words : List ℤ = output_words M (whole (cycle_writes M (next_number told)) (context_told M told) (next_number told) l.inputs) in
+    let words : List ℤ = output_words M (whole (cycle_writes M (next_cycle_number told)) (context_told M told) (next_cycle_number told) l.inputs) in
     let votes : l.votes ≡ map (λ w. Some w) words = votes_are l.votes (map (λ w. Some w) words) b.1 in (
       record {
         inputs = eqb-true (length l.inputs) M.width (both (length l.inputs == M.width) (list_all (has r.active) l.judged) a.0).0;
@@ -217,13 +217,13 @@ module _ (M : MissionValue) (told : Told) (r : RecordValue) (old : Auditor) (lin
   sized_by (x ∷ lines) e l is = h.part.sized l (ap (λ (ls : List LineValue). slice_get ls 0) e ∙ is)
 
   voted_by : (lines : List LineValue) → r.lines ≡ lines →
-      (unwrap_or (slice_get (lines ++ shown_in M line ∷ []) 0) no_line).votes ≡ map (λ w. Some w) (output_words M (context_amid M told (with_line r (shown_in M line))))
+      (unwrap_or (slice_get (lines ++ shown_in M line ∷ []) 0) blank_line).votes ≡ map (λ w. Some w) (output_words M (context_amid M told (with_line r (shown_in M line))))
   voted_by [] e =
       (first_facts M told r (shown_in M line) few (sym (says_first M told r (shown_in M line) e) ∙ fits)).1
       ∙ ap (λ c. map (λ w. Some w) (output_words M c)) (sym (amid_first M told r (shown_in M line) e))
   voted_by (x ∷ lines) e =
       let some : is_empty r.lines ≡ false = ap is_empty e in
-      ap (λ (ls : List LineValue). (unwrap_or (slice_get ls 0) no_line).votes) (sym e) ∙ h.part.voted some
+      ap (λ (ls : List LineValue). (unwrap_or (slice_get ls 0) blank_line).votes) (sym e) ∙ h.part.voted some
       ∙ ap (λ c. map (λ w. Some w) (output_words M c)) (sym (amid_later M told r (shown_in M line) some))
 
   pub channel_stands : (context : ContextValue) → old.place ≡ at.Amid → context ≡ context_amid M told (with_line r (shown_in M line)) → line.channel < 7 →

@@ -16,16 +16,16 @@ use Rattle.context_blocks.specs.BlockSets.{blocks_where, numbers_where}
 use Rattle.task_table.specs.Tables.{TableValue, table_writes}
 use Rattle.guards_model.proofs.BoolTests.{both}
 use Rattle.guards_model.proofs.ListTests.{any-map}
-use Rattle.report_lines.specs.Lines.{closed, is_empty}
+use Rattle.guards_audit.specs.Lines.{closed_record, is_empty}
 use Rattle.guards_audit.specs.Consistency.{after_cycle}
-use Rattle.guards_audit.specs.Told.{Told, next_number, no_line, first_line, context_told, plan_told, swept_told, words_told, number_remaining, rest_told}
+use Rattle.guards_audit.specs.Told.{Told, next_cycle_number, blank_line, first_line, context_told, plan_told, swept_told, words_told, number_remaining, rest_told}
 use Rattle.guards_audit.specs.Tests.{all_traced, same_number}
-use Rattle.past_sweeps.specs.Sweeping.{SweepsFor}
-use Rattle.past_sweeps.specs.declared.sweeps.Sweeps.{Sweeps}
+use Rattle.told_cycles.specs.Sweeping.{SweepsFor}
+use Rattle.told_cycles.specs.declared.sweeps.Sweeps.{Sweeps}
 use Rattle.told_cycles.specs.declared.auditor.Auditor.{Auditor}
 use Rattle.told_cycles.specs.declared.auditor.Place.{Place}
 use Rattle.told_cycles.specs.declared.auditor.Place.TheVariants as at
-use Rattle.told_cycles.specs.Standing.{EndsAmid, IsAmid, IsBetween, StandsAt, SweepsAt, SweepsClosed, context_amid, kept_transfer, shown_in}
+use Rattle.told_cycles.specs.Standing.{EndsAmid, IsAmid, IsBetweenCycles, StandsAt, SweepsAt, SweepsClosed, context_amid, kept_transfer, shown_in}
 use Rattle.told_cycles.proofs.SetLemmas.{same_members}
 use Rattle.told_cycles.proofs.StandLemmas.{differ, no_some, the_same}
 
@@ -51,7 +51,7 @@ pub first_is : (M : MissionValue) (r : RecordValue) (o : Option LineValue) (f : 
     (is_empty r.lines ≡ false) × (first_line r ≡ shown_in M f)
 first_is M r o f h e = by_lines r.lines (sym (ap (option_map (shown_in M)) e) ∙ h)
   where
-    by_lines : (lines : List LineValue) → Some (shown_in M f) ≡ slice_get lines 0 → (is_empty lines ≡ false) × (unwrap_or (slice_get lines 0) no_line ≡ shown_in M f)
+    by_lines : (lines : List LineValue) → Some (shown_in M f) ≡ slice_get lines 0 → (is_empty lines ≡ false) × (unwrap_or (slice_get lines 0) blank_line ≡ shown_in M f)
     by_lines [] k = no_some (shown_in M f) (sym k)
     by_lines (x ∷ lines) k = (refl, sym (the_same (shown_in M f) x k))
 
@@ -72,27 +72,27 @@ number_is (Some a) None h = differ (sym h)
 number_is (Some a) (Some b) h = ap (λ n. Some n) (eqb-true a b h)
 
 pub closed_rest : (M : MissionValue) (told : Told) (r : RecordValue) (t : TransferValue) (cycles : List TransferCycle) → r.transfer ≡ Some t →
-    cycles ≡ record { planned = plan_told M told r.transfer; written = written_blocks M (next_number told) } ∷ swept_told M t.start told →
-    cycles ≡ record { planned = plan_told M told (Some t); written = written_blocks M (next_number told) } ∷ swept_told M t.start told
-closed_rest M told r t cycles is e = e ∙ ap (λ o. record { planned = plan_told M told o; written = written_blocks M (next_number told) } ∷ swept_told M t.start told) is
+    cycles ≡ record { planned = plan_told M told r.transfer; written = written_blocks M (next_cycle_number told) } ∷ swept_told M t.start told →
+    cycles ≡ record { planned = plan_told M told (Some t); written = written_blocks M (next_cycle_number told) } ∷ swept_told M t.start told
+closed_rest M told r t cycles is e = e ∙ ap (λ o. record { planned = plan_told M told o; written = written_blocks M (next_cycle_number told) } ∷ swept_told M t.start told) is
 
 -- what remains of the transfer that ran
-pub number_same : (M : MissionValue) (told : Told) (r : RecordValue) {s : Sweeps} (closed : SweepsClosed M told r s) (rest : ℕ) → rest ≡ length (remaining_blocks M.rules.blocks closed.cycles) →
+pub number_same : (M : MissionValue) (told : Told) (r : RecordValue) {s : Sweeps} (closed_record : SweepsClosed M told r s) (rest : ℕ) → rest ≡ length (remaining_blocks M.rules.blocks closed_record.cycles) →
     option_map (λ (t : TransferValue). rest) r.transfer ≡ number_remaining M told r.transfer
-number_same M told r closed rest e = by_transfer r.transfer refl
+number_same M told r closed_record rest e = by_transfer r.transfer refl
   where
     by_transfer : (o : Option TransferValue) → r.transfer ≡ o → option_map (λ (t : TransferValue). rest) o ≡ number_remaining M told o
     by_transfer None k = refl
-    by_transfer (Some t) k = ap (λ n. Some n) (e ∙ ap (λ cycles. length (remaining_blocks M.rules.blocks cycles)) (closed_rest M told r t closed.cycles k (closed.same t k)))
+    by_transfer (Some t) k = ap (λ n. Some n) (e ∙ ap (λ cycles. length (remaining_blocks M.rules.blocks cycles)) (closed_rest M told r t closed_record.cycles k (closed_record.same t k)))
 
-pub joined_same : (M : MissionValue) (told : Told) (r : RecordValue) {s : Sweeps} (closed : SweepsClosed M told r s) →
-    joined_of M.rules.last r.transfer (remaining_blocks M.rules.blocks closed.cycles) ≡ joined_of M.rules.last r.transfer (rest_told M told r.transfer)
-joined_same M told r closed = by_transfer r.transfer refl
+pub joined_same : (M : MissionValue) (told : Told) (r : RecordValue) {s : Sweeps} (closed_record : SweepsClosed M told r s) →
+    joined_of M.rules.last r.transfer (remaining_blocks M.rules.blocks closed_record.cycles) ≡ joined_of M.rules.last r.transfer (rest_told M told r.transfer)
+joined_same M told r closed_record = by_transfer r.transfer refl
   where
-    by_transfer : (o : Option TransferValue) → r.transfer ≡ o → joined_of M.rules.last o (remaining_blocks M.rules.blocks closed.cycles) ≡ joined_of M.rules.last o (rest_told M told o)
+    by_transfer : (o : Option TransferValue) → r.transfer ≡ o → joined_of M.rules.last o (remaining_blocks M.rules.blocks closed_record.cycles) ≡ joined_of M.rules.last o (rest_told M told o)
     by_transfer None k = refl
     by_transfer (Some t) k =
-        ap (λ cycles. joined_of M.rules.last (Some t) (remaining_blocks M.rules.blocks cycles)) (closed_rest M told r t closed.cycles k (closed.same t k))
+        ap (λ cycles. joined_of M.rules.last (Some t) (remaining_blocks M.rules.blocks cycles)) (closed_rest M told r t closed_record.cycles k (closed_record.same t k))
 
 -- ---- where the auditor stands after it
 
@@ -100,20 +100,20 @@ present_words : (words : List ℤ) → present (map (λ w. Some w) words) ≡ wo
 present_words [] = refl
 present_words (w ∷ words) = ap (λ ws. w ∷ ws) (present_words words)
 
-swept_more : (M : MissionValue) (s : ℕ) (told : Told) (r : RecordValue) → s ≤ next_number told →
-    swept_told M s (r ∷ told) ≡ record { planned = plan_told M told (Some (record { targets = []; start = s })); written = written_blocks M (next_number told) } ∷ swept_told M s told
+swept_more : (M : MissionValue) (s : ℕ) (told : Told) (r : RecordValue) → s ≤ next_cycle_number told →
+    swept_told M s (r ∷ told) ≡ record { planned = plan_told M told (Some (record { targets = []; start = s })); written = written_blocks M (next_cycle_number told) } ∷ swept_told M s told
 swept_more M s told r h =
-    ap (λ b. cond b (record { planned = plan_told M told (Some (record { targets = []; start = s })); written = written_blocks M (next_number told) } ∷ swept_told M s told) [])
-    (le-leb s (next_number told) h)
+    ap (λ b. cond b (record { planned = plan_told M told (Some (record { targets = []; start = s })); written = written_blocks M (next_cycle_number told) } ∷ swept_told M s told) [])
+    (le-leb s (next_cycle_number told) h)
 
 module _ (M : MissionValue) (told : Told) (r : RecordValue) (removed joined : ChannelSet) (left : Option ℕ) (old : Auditor) (h : EndsAmid M told r old) (some : is_empty r.lines ≡ false) where
   ended : RecordValue
-  ended = closed r removed joined left
+  ended = closed_record r removed joined left
 
   sweeps_end : SweepsAt M (ended ∷ told) None old.sweeps
   unfolding ended
   sweeps_end =
-      let next : next_number told + 1 ≡ suc (next_number told) = omega arith in
+      let next : next_cycle_number told + 1 ≡ suc (next_cycle_number told) = omega arith in
       record {
         cycles = h.sweeps.cycles;
         stand = subst (λ n. SweepsFor M.rules.blocks n h.sweeps.cycles old.sweeps) next h.sweeps.stand;
@@ -138,7 +138,7 @@ module _ (M : MissionValue) (told : Told) (r : RecordValue) (removed joined : Ch
   pub ends : (where_to : Place) (active : ChannelSet) (counts : List ℕ) (words : List ℤ) → active ≡ union (without old.active removed) joined →
       ((q : ℕ) → q < 7 → slice_index counts q ≡ place_or (first_line r).counts q 0) →
       ((actuator : ActuatorValue) → M.actuator ≡ Some actuator → take (length M.outputs) words ≡ words_towards actuator.steps (take (length M.outputs) old.words) (output_words M old.context)) →
-      IsBetween M (closed r removed joined left ∷ told)
+      IsBetweenCycles M (closed_record r removed joined left ∷ told)
       (record old { place = where_to; done = old.done + 1; active = active; joined = joined; counts = counts; transfer = old.part.transfer; words = words })
   unfolding ended
   ends where_to active counts words is_active is_counts is_words =
@@ -156,7 +156,7 @@ module _ (M : MissionValue) (told : Told) (r : RecordValue) (removed joined : Ch
         sweeps = sweeps_end;
       }
 
-pub stands_after : (M : MissionValue) (told : Told) (new : Auditor) → IsBetween M told new → (M.actuator ≡ None → new.place ≡ at.Between) → ((a : ActuatorValue) → M.actuator ≡ Some a → new.place ≡ at.Awaits) →
+pub stands_after : (M : MissionValue) (told : Told) (new : Auditor) → IsBetweenCycles M told new → (M.actuator ≡ None → new.place ≡ at.Between) → ((a : ActuatorValue) → M.actuator ≡ Some a → new.place ≡ at.Awaits) →
     StandsAt M (after_cycle M.actuator told) new
 stands_after M told new h none some = by_actuator M.actuator refl
   where
@@ -168,7 +168,7 @@ stands_after M told new h none some = by_actuator M.actuator refl
         is_there k = subst (λ (o : Option ActuatorValue). IsSome o) (sym k) (search rules)
 
 pub ends_amid : (M : MissionValue) (told : Told) (r : RecordValue) (old : Auditor) (sweeps : Sweeps) → IsAmid M told r old → SweepsClosed M told r sweeps → EndsAmid M told r (record old { sweeps = sweeps })
-ends_amid M told r old sweeps h closed =
+ends_amid M told r old sweeps h closed_record =
     record {
       knows = record {
         done = h.knows.done;
@@ -194,7 +194,7 @@ ends_amid M told r old sweeps h closed =
         traced = h.part.traced;
         traced_low = h.part.traced_low;
       };
-      sweeps = closed;
+      sweeps = closed_record;
     }
 
 pub cycles_few : (M : MissionValue) → IsMission M → M.cycles ≤ 2000
@@ -213,11 +213,11 @@ written_are M n done table written t d e b low =
     ∙ ap (λ (x : TableValue). has (map (λ w. w.block) (table_writes x done)) b) t ∙ ap (λ k. has (written_blocks M k) b) d
 
 pub closes : (M : MissionValue) (told : Told) (r : RecordValue) (old : Auditor) (new : Sweeps) (plan written : List ℕ) → IsAmid M told r old → plan ≡ old.part.plan.items →
-    ((b : ℕ) → b < 256 → has written b ≡ has (written_blocks M (next_number told)) b) →
+    ((b : ℕ) → b < 256 → has written b ≡ has (written_blocks M (next_cycle_number told)) b) →
     ((blocks : ℕ) (cycles : List TransferCycle) (list : List ℕ) → ((b : ℕ) → b < 256 → has written b ≡ has list b) → SweepsFor blocks old.done cycles old.sweeps →
     SweepsFor blocks (old.done + 1) (record { planned = plan; written = list } ∷ cycles) new) → SweepsClosed M told r new
 closes M told r old new plan written h e alike f =
-    let W : List ℕ = written_blocks M (next_number told) in
+    let W : List ℕ = written_blocks M (next_cycle_number told) in
     let before : SweepsFor M.rules.blocks old.done h.sweeps.cycles old.sweeps = subst (λ n. SweepsFor M.rules.blocks n h.sweeps.cycles old.sweeps) (sym h.knows.done) h.sweeps.stand in
     record {
       cycles = record { planned = plan; written = W } ∷ h.sweeps.cycles;

@@ -8,12 +8,12 @@ use Rattle.guards_model.specs.Channels.{ChannelSet, has, numbers_below, without}
 use Rattle.guards_model.specs.Missions.{MissionValue, channels_of}
 use Rattle.guards_model.specs.Transfers.{TransferValue}
 use Rattle.guards_model.specs.Texts.{LineValue, RecordValue, TraceValue}
-use Rattle.report_lines.specs.Lines.{is_empty}
+use Rattle.guards_audit.specs.Lines.{is_empty}
 use Rattle.guards_model.proofs.NumbersBelow.{below_there}
 use Rattle.guards_model.proofs.Tables.{has-filter}
 use Rattle.dirty_tags.proofs.MarkedLists.{below_of}
 use Rattle.guards_model.proofs.BoolTests.{second_false}
-use Rattle.guards_audit.specs.Tests.{continues, goes_on, is_passive}
+use Rattle.guards_audit.specs.Tests.{continues, transfer_goes_on, is_passive}
 use Rattle.guards_audit.specs.Told.{Told}
 use Rattle.told_cycles.proofs.SetLemmas.{same_bool}
 use Rattle.told_cycles.proofs.EndLemmas.{all_alike}
@@ -67,12 +67,12 @@ none_in : (set : ChannelSet) → (length set == 0) ≡ is_empty set
 none_in [] = refl
 none_in (q ∷ set) = eqb-suc-zero (length set)
 
-pub none_goes_on : (told : Told) (t : TransferValue) → None ≡ transfer_told told → false ≡ goes_on told t
+pub none_goes_on : (told : Told) (t : TransferValue) → None ≡ transfer_told told → false ≡ transfer_goes_on told t
 none_goes_on [] t h = refl
 none_goes_on (r ∷ told) t h = sym (second_false (is_empty r.joined) (continues r.transfer t) (ap (λ o. continues o t) (sym h)))
 
 pub one_goes_on : (told : Told) (joined : ChannelSet) (before t : TransferValue) → joined ≡ joined_told told → Some before ≡ transfer_told told →
-    (length joined == 0 && (before.start == t.start && list_all (has before.targets) t.targets)) ≡ goes_on told t
+    (length joined == 0 && (before.start == t.start && list_all (has before.targets) t.targets)) ≡ transfer_goes_on told t
 one_goes_on [] joined before t e h = no_some before (sym h)
 one_goes_on (r ∷ told) joined before t e h =
     (let none = ap (λ (s : ChannelSet). length s == 0) e ∙ none_in r.joined in λ i. none i && continues (h i) t)

@@ -9,3 +9,4 @@ pub mod OpenLemmas
 pub mod SetLemmas
 pub mod StandLemmas
 pub mod StepLemmas
+pub mod SweepSteps

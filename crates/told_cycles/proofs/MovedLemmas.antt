@@ -5,7 +5,7 @@ use Rattle.std.proofs.lemmas.List.{get_or-take, length-map, length-take}
 use Rattle.std.proofs.lemmas.List.FromFn.{fill_by_all}
 use Rattle.std.proofs.lemmas.Option.{unwrap_or-slice_get}
 use Rattle.guards_model.specs.Actuators.{limited, words_towards}
-use Rattle.guards_model.specs.Contexts.{ContextValue, word_at, word_of}
+use Rattle.guards_model.specs.Contexts.{ContextValue, context_word, word_of}
 use Rattle.guards_model.specs.Missions.{ActuatorValue, MissionValue, output_words}
 use Rattle.told_cycles.proofs.StandLemmas.{the_same}
 
@@ -35,7 +35,7 @@ moved_are steps last wanted next few long size h =
 
 -- the wanted words are as many as the outputs
 pub wanted_long : (M : MissionValue) (ctx : ContextValue) (wanted : List ℤ) → wanted ≡ output_words M ctx → length wanted ≡ length M.outputs
-wanted_long M ctx wanted is = ap length is ∙ length-map M.outputs (λ (o : ℕ × ℕ). word_at ctx o.0 o.1)
+wanted_long M ctx wanted is = ap length is ∙ length-map M.outputs (λ (o : ℕ × ℕ). context_word ctx o.0 o.1)
 
 -- the words of the mission's actuator move
 pub moved_by : (M : MissionValue) (ctx : ContextValue) (steps start last wanted next : List ℤ) → wanted ≡ output_words M ctx →

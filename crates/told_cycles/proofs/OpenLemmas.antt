@@ -6,16 +6,16 @@ use Rattle.guards_model.specs.Decisions.{has_started}
 use Rattle.guards_model.specs.Missions.{MissionValue, IsMission, within, is_law}
 use Rattle.guards_model.specs.Transfers.{TransferValue, TransferCycle}
 use Rattle.guards_model.proofs.BoolTests.{both}
-use Rattle.guards_audit.specs.Told.{Told, next_number}
-use Rattle.past_sweeps.specs.Sweeping.{SweepsFor}
-use Rattle.past_sweeps.specs.declared.sweeps.Sweeps.{Sweeps}
+use Rattle.guards_audit.specs.Told.{Told, next_cycle_number}
+use Rattle.told_cycles.specs.Sweeping.{SweepsFor}
+use Rattle.told_cycles.specs.declared.sweeps.Sweeps.{Sweeps}
 use Rattle.told_cycles.specs.Rules.{most_planned}
 
-pub begins : (M : MissionValue) (told : Told) (transfer : Option TransferValue) (s new : Sweeps) (starts : Bool) (done : ℕ) → starts ≡ has_started done transfer → done ≡ next_number told →
+pub begins : (M : MissionValue) (told : Told) (transfer : Option TransferValue) (s new : Sweeps) (starts : Bool) (done : ℕ) → starts ≡ has_started done transfer → done ≡ next_cycle_number told →
     ((blocks next : ℕ) (cycles : List TransferCycle) → SweepsFor blocks next cycles s → SweepsFor blocks next (cond starts [] cycles) new) →
-    (cycles : List TransferCycle) → SweepsFor M.rules.blocks (next_number told) cycles s → SweepsFor M.rules.blocks (next_number told) (cond (has_started (next_number told) transfer) [] cycles) new
+    (cycles : List TransferCycle) → SweepsFor M.rules.blocks (next_cycle_number told) cycles s → SweepsFor M.rules.blocks (next_cycle_number told) (cond (has_started (next_cycle_number told) transfer) [] cycles) new
 begins M told transfer s new starts done e d f cycles h =
-    subst (λ b. SweepsFor M.rules.blocks (next_number told) (cond b [] cycles) new) (e ∙ ap (λ n. has_started n transfer) d) (f M.rules.blocks (next_number told) cycles h)
+    subst (λ b. SweepsFor M.rules.blocks (next_cycle_number told) (cond b [] cycles) new) (e ∙ ap (λ n. has_started n transfer) d) (f M.rules.blocks (next_cycle_number told) cycles h)
 
 -- the parts of a mission's rules
 pub record RulesParts (M : MissionValue) : Type 0 where

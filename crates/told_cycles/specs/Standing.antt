@@ -8,11 +8,11 @@ use Rattle.guards_model.specs.Records.{transfer_of_pair, shown_line}
 use Rattle.guards_model.specs.Tasks.{whole}
 use Rattle.guards_model.specs.Texts.{LineValue, RecordValue}
 use Rattle.guards_model.specs.Transfers.{TransferValue, TransferCycle}
-use Rattle.report_lines.specs.Lines.{ReportLine, is_empty}
-use Rattle.guards_audit.specs.Told.{Told, next_number, first_line, active_told, context_told, swept_told, plan_told, words_told}
+use Rattle.guards_audit.specs.Lines.{ReportLine, is_empty}
+use Rattle.guards_audit.specs.Told.{Told, next_cycle_number, first_line, active_told, context_told, swept_told, plan_told, words_told}
 use Rattle.guards_audit.specs.Consistency as place
-use Rattle.past_sweeps.specs.Sweeping.{SweepsFor}
-use Rattle.past_sweeps.specs.declared.sweeps.Sweeps.{Sweeps}
+use Rattle.told_cycles.specs.Sweeping.{SweepsFor}
+use Rattle.told_cycles.specs.declared.sweeps.Sweeps.{Sweeps}
 use Rattle.told_cycles.specs.declared.auditor.Auditor.{Auditor}
 use Rattle.told_cycles.specs.declared.auditor.Place.{Place}
 use Rattle.told_cycles.specs.declared.auditor.Place.TheVariants as at
@@ -42,11 +42,11 @@ counts_last (r ∷ told) = (first_line r).counts
 
 -- a transfer that runs has started
 abbrev pub HasStarted : Told → Option TransferValue → Type 0
-HasStarted told transfer = (t : TransferValue) → transfer ≡ Some t → t.start ≤ next_number told
+HasStarted told transfer = (t : TransferValue) → transfer ≡ Some t → t.start ≤ next_cycle_number told
 
 -- What the auditor knows of the told cycles.
 pub record Knows (M : MissionValue) (told : Told) (ctx : ContextValue) (a : Auditor) : Type 0 where
-  pub done : a.done ≡ next_number told
+  pub done : a.done ≡ next_cycle_number told
   pub active : a.active ≡ active_told M told
   pub joined : a.joined ≡ joined_told told
   pub transfer : transfer_of_pair a.transfer ≡ transfer_told told
@@ -60,11 +60,11 @@ pub record Knows (M : MissionValue) (told : Told) (ctx : ContextValue) (a : Audi
 abbrev pub context_amid : MissionValue → Told → RecordValue → ContextValue
 context_amid M told r =
     if is_empty r.lines then context_told M told
-    else whole (cycle_writes M (next_number told)) (context_told M told) (next_number told) (first_line r).inputs
+    else whole (cycle_writes M (next_cycle_number told)) (context_told M told) (next_cycle_number told) (first_line r).inputs
 
 -- What the auditor knows of the running cycle r, the one after those that were told.
 pub record KnowsPart (M : MissionValue) (told : Told) (r : RecordValue) (a : Auditor) : Type 0 where
-  pub early : next_number told < M.cycles
+  pub early : next_cycle_number told < M.cycles
   pub active : r.active ≡ active_told M told
   pub transfer : transfer_of_pair a.part.transfer ≡ r.transfer
   pub started : HasStarted told r.transfer
@@ -86,16 +86,16 @@ kept_transfer told (Some t) = Some t
 -- The sweeps stand for some cycles: where a transfer is kept, for those of this transfer.
 pub record SweepsAt (M : MissionValue) (told : Told) (transfer : Option TransferValue) (s : Sweeps) : Type 0 where
   pub cycles : List TransferCycle
-  pub stand : SweepsFor M.rules.blocks (next_number told) cycles s
+  pub stand : SweepsFor M.rules.blocks (next_cycle_number told) cycles s
   pub same : (t : TransferValue) → kept_transfer told transfer ≡ Some t → cycles ≡ swept_told M t.start told
 
 abbrev pub is_head : Place → Bool
 is_head at.Head = true
 is_head _ = false
 
-abbrev pub is_between : Place → Bool
-is_between at.Between = true
-is_between _ = false
+abbrev pub is_between_cycles : Place → Bool
+is_between_cycles at.Between = true
+is_between_cycles _ = false
 
 abbrev pub is_awaiting : Place → Bool
 is_awaiting at.Awaits = true
@@ -110,7 +110,7 @@ is_ended at.Over = true
 is_ended _ = false
 
 -- The auditor stands before the first line, between two cycles, or in a cycle.
-pub record IsBetween (M : MissionValue) (told : Told) (a : Auditor) : Type 0 where
+pub record IsBetweenCycles (M : MissionValue) (told : Told) (a : Auditor) : Type 0 where
   pub knows : Knows M told (context_told M told) a
   pub sweeps : SweepsAt M told None a.sweeps
 
@@ -122,9 +122,9 @@ pub record IsAmid (M : MissionValue) (told : Told) (r : RecordValue) (a : Audito
 -- At its end the sweeps stand for some cycles: where a transfer ran, for those of it, with this one.
 pub record SweepsClosed (M : MissionValue) (told : Told) (r : RecordValue) (s : Sweeps) : Type 0 where
   pub cycles : List TransferCycle
-  pub stand : SweepsFor M.rules.blocks (next_number told + 1) cycles s
+  pub stand : SweepsFor M.rules.blocks (next_cycle_number told + 1) cycles s
   pub same : (t : TransferValue) → r.transfer ≡ Some t →
-      cycles ≡ record { planned = plan_told M told r.transfer; written = written_blocks M (next_number told) }
+      cycles ≡ record { planned = plan_told M told r.transfer; written = written_blocks M (next_cycle_number told) }
       ∷ swept_told M t.start told
 
 pub record EndsAmid (M : MissionValue) (told : Told) (r : RecordValue) (a : Auditor) : Type 0 where
@@ -134,10 +134,10 @@ pub record EndsAmid (M : MissionValue) (told : Told) (r : RecordValue) (a : Audi
 
 -- The auditor stands at a place of the trace.
 abbrev pub StandsAt : MissionValue → place.Place → Auditor → Type 0
-StandsAt M place.at_head a = (a.place ≡ at.Head) × IsBetween M [] a
-StandsAt M (place.between told) a = (a.place ≡ at.Between) × IsBetween M told a
+StandsAt M place.at_head a = (a.place ≡ at.Head) × IsBetweenCycles M [] a
+StandsAt M (place.between told) a = (a.place ≡ at.Between) × IsBetweenCycles M told a
 StandsAt M (place.amid told r) a = (a.place ≡ at.Amid) × IsAmid M told r a
-StandsAt M (place.awaits_out told) a = (a.place ≡ at.Awaits) × IsBetween M told a × IsSome M.actuator
+StandsAt M (place.awaits_out told) a = (a.place ≡ at.Awaits) × IsBetweenCycles M told a × IsSome M.actuator
 StandsAt M place.at_end a = a.place ≡ at.Over
 
 abbrev pub StandsSomewhere : MissionValue → Auditor → Type 0
@@ -145,5 +145,5 @@ StandsSomewhere M a = (at : place.Place) × StandsAt M at a
 
 -- What taking a line does, by the answer: it suits the place, and the auditor stands at the next one; or it does not.
 abbrev pub Takes : MissionValue → place.Place → ReportLine → Auditor → Bool → Type 0
-Takes M at line new true = IsTrue (place.suits M at line) × StandsAt M (place.after M at line) new
-Takes M at line new false = place.suits M at line ≡ false
+Takes M at line new true = IsTrue (place.suits_place M at line) × StandsAt M (place.following_place M at line) new
+Takes M at line new false = place.suits_place M at line ≡ false

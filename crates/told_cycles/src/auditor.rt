@@ -7,12 +7,12 @@ ghost use Rattle.guards_model.specs.Records.{transfer_of_pair};
 ghost use Rattle.guards_model.specs.Texts.{RecordValue};
 ghost use Rattle.guards_audit.specs.Consistency as place;
 ghost use Rattle.guards_audit.specs.Consistency.{after_cycle};
-ghost use Rattle.report_lines.specs.Lines.{channel_told, closed, cycle_told, done_told, end_told, head_told, out_told, is_empty, opened, steps_told};
-ghost use Rattle.guards_audit.specs.Tests.{all_traced, comes_next, cycle_fits, first_fits, goes_on, removed_fits, same_number, says_fit, steps_fit, transfer_fits};
+ghost use Rattle.guards_audit.specs.Lines.{channel_told, closed_record, cycle_told, done_told, end_told, head_told, out_told, is_empty, opened_record, steps_told};
+ghost use Rattle.guards_audit.specs.Tests.{all_traced, comes_next, cycle_fits, first_fits, transfer_goes_on, removed_fits, same_number, says_fit, steps_fit, transfer_fits};
 ghost use Rattle.guards_audit.specs.Told.{Told, number_remaining, rest_told, with_line};
 ghost use Rattle.guards_audit.specs.Verdicts.{is_at_end};
 ghost use Rattle.told_cycles.specs.declared.auditor.Place.TheVariants as at;
-ghost use Rattle.told_cycles.specs.Standing.{EndsAmid, IsAmid, IsBetween, StandsAt, StandsSomewhere, SweepsClosed, Takes, context_amid, is_amid, is_awaiting, is_between, is_ended, is_head, shown_in};
+ghost use Rattle.told_cycles.specs.Standing.{EndsAmid, IsAmid, IsBetweenCycles, StandsAt, StandsSomewhere, SweepsClosed, Takes, context_amid, is_amid, is_awaiting, is_between_cycles, is_ended, is_head, shown_in};
 
 use crate::counts::{counts_by, counts_of_line, counts_told, has_counts, judged_of};
 use crate::lines::{are_same_words, says_same};
@@ -21,6 +21,7 @@ use crate::rules::{
     is_same_number, joins, remaining_of, returning_of, starts_in, sweep_of,
 };
 use crate::sets::{are_same, both, either, minus, plus, within};
+use crate::sweeps::{Plan, Sweeps};
 use crate::work::{
     copies_told, first_words, has_width, run_line, teller_of, votes_fit, words_after, worker_of,
     writes_told,
@@ -29,7 +30,6 @@ use context_blocks::Context;
 use guards_base::{Chan, ChanSet, ChannelLine, TraceLine};
 use mission_type::Mission;
 use native_calls::Calls;
-use past_sweeps::{Plan, Sweeps};
 use std::alloc::{AllocError, Global};
 
 /// What was told of the running cycle: its transfer and plan, its first line, and whose lines and steps.
@@ -131,7 +131,7 @@ impl Auditor {
     }
 
     fn is_between(&self) -> bool
-        ensures { result ≡ is_between self.now.place }
+        ensures { result ≡ is_between_cycles self.now.place }
     {
         matches!(self.place, Place::Between)
     }
@@ -180,8 +180,8 @@ impl Auditor {
 
     /// Whether a transfer goes on from the cycle before.
     fn goes_on(&self, targets: ChanSet, start: u32) -> bool
-        ensures { (M : MissionValue) (told : Told) → IsBetween M told self.now →
-            result ≡ goes_on told (record { targets = targets; start = start }) }
+        ensures { (M : MissionValue) (told : Told) → IsBetweenCycles M told self.now →
+            result ≡ transfer_goes_on told (record { targets = targets; start = start }) }
     {
         let Some((before, since)) = self.transfer else {
             return false;
@@ -193,7 +193,7 @@ impl Auditor {
     }
 
     fn transfer_fits(&self, mission: &Mission, transfer: &Option<(ChanSet, u32)>) -> bool
-        ensures { (told : Told) → IsBetween mission.now told self.now →
+        ensures { (told : Told) → IsBetweenCycles mission.now told self.now →
             result ≡ transfer_fits mission.now told self.now.active (transfer_of_pair transfer.now) }
     {
         let Some((targets, start)) = *transfer else {
@@ -213,7 +213,7 @@ impl Auditor {
         active: ChanSet,
         transfer: &Option<(ChanSet, u32)>,
     ) -> bool
-        ensures { (told : Told) → IsBetween mission.now told self.now →
+        ensures { (told : Told) → IsBetweenCycles mission.now told self.now →
             result ≡ cycle_fits mission.now told cycle active (transfer_of_pair transfer.now) }
     {
         let is_next = both(cycle < mission.cycles(), cycle == self.done);
@@ -228,12 +228,12 @@ impl Auditor {
 
     /// Opens a cycle.
     fn open(&mut self, mission: &Mission, transfer: Option<(ChanSet, u32)>)
-        requires { (told : Told) × IsBetween mission.now told self.old }
-        ensures { (told : Told) (cycle : ℕ) (active : ChannelSet) → IsBetween mission.now told self.old →
+        requires { (told : Told) × IsBetweenCycles mission.now told self.old }
+        ensures { (told : Told) (cycle : ℕ) (active : ChannelSet) → IsBetweenCycles mission.now told self.old →
             cycle_fits mission.now told cycle active (transfer_of_pair transfer) ≡ true →
-            StandsAt mission.now (place.amid told (opened cycle active (transfer_of_pair transfer))) self.new }
+            StandsAt mission.now (place.amid told (opened_record cycle active (transfer_of_pair transfer))) self.new }
     {
-        mission.is_mission();
+        mission.prove_mission();
         self.sweeps.restart_if(starts_in(&transfer, self.done));
         let plan = self.sweeps.plan(sweep_of(mission, &transfer));
         self.part = Part {
@@ -277,7 +277,7 @@ impl Auditor {
             self.new
             ≡ record self.old { context = context_amid mission.now told (with_line r (shown_in mission.now line.now)) } }
     {
-        mission.know_sizes();
+        mission.prove_sizes();
         let judged = judged_of(line);
         let counts = counts_by(mission, self.active, self.joined, judged, &self.counts);
         run_line(mission, self.done, &mut self.context, line, natives);
@@ -344,7 +344,7 @@ impl Auditor {
         ensures { (at : place.Place) → StandsAt mission.now at self.old →
             Takes mission.now at (channel_told (shown_in mission.now line)) self.new result }
     {
-        mission.know_sizes();
+        mission.prove_sizes();
         let chan = teller_of(&line);
         let _below = chan.index();
         if !self.is_amid() {
@@ -398,7 +398,7 @@ impl Auditor {
         let Some(first) = &self.part.first else {
             return false;
         };
-        mission.know_sizes();
+        mission.prove_sizes();
         let counts = counts_told(first, channel_count(mission));
         let left = minus(self.active, removed).count();
         let stay = both(
@@ -445,9 +445,9 @@ impl Auditor {
         requires context { length self.old.context ≡ mission.now.rules.blocks }
         ensures { (told : Told) (r : RecordValue) (left : Option ℕ) → EndsAmid mission.now told r self.old →
             is_empty r.lines ≡ false →
-            StandsAt mission.now (after_cycle mission.now.actuator (closed r removed joined left ∷ told)) self.new }
+            StandsAt mission.now (after_cycle mission.now.actuator (closed_record r removed joined left ∷ told)) self.new }
     {
-        mission.know_sizes();
+        mission.prove_sizes();
         self.words = words_after(mission, &self.context, &self.words, natives);
         self.counts = counts_of_line(&self.part.first, channel_count(mission));
         self.joined = joined;
@@ -470,8 +470,8 @@ impl Auditor {
         ensures { (at : place.Place) → StandsAt mission.now at self.old →
             Takes mission.now at (end_told removed joined remaining) self.new result }
     {
-        mission.is_mission();
-        mission.know_sizes();
+        mission.prove_mission();
+        mission.prove_sizes();
         if !self.is_amid() {
             return false;
         }
@@ -491,7 +491,7 @@ impl Auditor {
         ensures { (at : place.Place) → StandsAt mission.now at self.old →
             Takes mission.now at (out_told (take (length mission.now.outputs) words.now)) self.new result }
     {
-        mission.know_sizes();
+        mission.prove_sizes();
         let outputs = mission.outputs().len();
         if !self.is_awaiting() {
             return false;

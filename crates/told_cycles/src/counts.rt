@@ -90,7 +90,7 @@ pub fn counts_by(
         (if has fresh q then 0 else slice_index before.now q) ≡ place_or base q 0) →
         result ≡ counts_of mission.now.rules.law mission.now.rules.keep mission.now.rules.decrement active judged base }
 {
-    mission.is_mission();
+    mission.prove_mission();
     counts_after(mission.rules(), active, fresh, judged, before)
 }
 

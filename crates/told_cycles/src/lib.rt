@@ -7,6 +7,8 @@ mod counts;
 mod lines;
 mod rules;
 mod sets;
+mod sweeps;
 mod work;
 
 pub use auditor::Auditor;
+pub use sweeps::{Plan, Sweeps};

@@ -1,7 +1,7 @@
 //! The lines of a cycle's channels.
 ghost use Rattle.std.specs.Prelude.{◌≡◌, length, bytes_eq};
 ghost use Rattle.guards_model.specs.Records.{shown_line};
-ghost use Rattle.guards_audit.specs.Tests.{same_votes, same_words, says_same};
+ghost use Rattle.guards_audit.specs.Tests.{same_votes, are_same_words, says_same};
 
 use crate::sets::{are_same, both};
 use guards_base::ChannelLine;
@@ -9,7 +9,7 @@ use mission_type::Mission;
 
 /// Whether two lists of words are the same.
 pub fn are_same_words(words: &[i64], others: &[i64]) -> bool
-    ensures { result ≡ same_words words.now others.now }
+    ensures { result ≡ are_same_words words.now others.now }
 {
     words == others
 }
@@ -34,7 +34,7 @@ pub fn says_same(mission: &Mission, line: &ChannelLine, first: &ChannelLine) -> 
         (shown_line mission.now.rules.channels mission.now.width (length mission.now.outputs) line.now)
         (shown_line mission.now.rules.channels mission.now.width (length mission.now.outputs) first.now) }
 {
-    mission.know_sizes();
+    mission.prove_sizes();
     let width = usize::from(mission.width());
     let outputs = mission.outputs().len();
     let channels = usize::from(mission.rules().channels);

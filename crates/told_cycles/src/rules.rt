@@ -43,7 +43,7 @@ pub fn block_count(mission: &Mission) -> u16
     ensures some { 1 ≤ result }
     ensures few { result ≤ 256 }
 {
-    mission.is_mission();
+    mission.prove_mission();
     blocks_of(mission)
 }
 
@@ -52,7 +52,7 @@ pub fn channel_count(mission: &Mission) -> u8
     ensures value { result ≡ mission.now.rules.channels }
     ensures seven { result ≤ 7 }
 {
-    mission.know_sizes();
+    mission.prove_sizes();
     mission.rules().channels
 }
 

@@ -32,7 +32,7 @@ fn padded(words: &[i64; 4], width: u8) -> [i64; 4]
 pub fn has_width(mission: &Mission, line: &ChannelLine) -> bool
     ensures { result ≡ (length (take mission.now.width line.now.inputs) == mission.now.width) }
 {
-    mission.know_sizes();
+    mission.prove_sizes();
     let width = usize::from(mission.width());
     line.inputs[..width].len() == width
 }
@@ -65,7 +65,7 @@ fn run_cycle<C: Calls>(
     ensures { context.new
         ≡ whole (cycle_writes mission.now cycle) context.old cycle (take mission.now.width inputs.now) }
 {
-    mission.know_sizes();
+    mission.prove_sizes();
     let inputs = padded(inputs, mission.width());
     do_writes(mission.table(), cycle, context, &inputs, natives);
 }
@@ -104,7 +104,7 @@ pub fn votes_fit(mission: &Mission, context: &Context, line: &ChannelLine) -> bo
     ensures { result
         ≡ same_votes (take (length mission.now.outputs) line.now.votes) (map (λ w. Some w) (output_words mission.now context.now)) }
 {
-    mission.know_sizes();
+    mission.prove_sizes();
     let outputs = mission.outputs().len();
     let votes = cast(mission.output_words(context).in_use());
     are_same_votes(&line.votes[..outputs], &votes[..outputs])
@@ -224,7 +224,7 @@ pub fn words_after<C: Calls>(
         take (length mission.now.outputs) result
         ≡ words_towards actuator.steps (take (length mission.now.outputs) last.now) (output_words mission.now context.now) }
 {
-    mission.know_sizes();
+    mission.prove_sizes();
     let wanted = mission.output_words(context);
     match mission.actuator() {
         Some(actuator) => moved(&actuator.steps, last, wanted.in_use(), natives),

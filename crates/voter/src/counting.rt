@@ -14,7 +14,7 @@ pub fn word_at(words: &[i64], place: usize) -> i64
 }
 
 // How many of the words are this one.
-fn equal(words: &[i64], word: &i64) -> usize
+fn count_equal(words: &[i64], word: &i64) -> usize
     ensures value { result ≡ count_by (int_eq word.now) words.now }
     ensures most { result ≤ length words.now }
 {
@@ -22,14 +22,14 @@ fn equal(words: &[i64], word: &i64) -> usize
 }
 
 // How many of the words are less than this one.
-fn less(words: &[i64], word: &i64) -> usize
+fn count_less(words: &[i64], word: &i64) -> usize
     ensures { result ≡ count_by (λ v. int_lt v word.now) words.now }
 {
     words.iter().filter(|w| **w < *word).count()
 }
 
 // How many of the words are at most this one.
-fn at_most(words: &[i64], word: &i64) -> usize
+fn count_at_most(words: &[i64], word: &i64) -> usize
     ensures { result ≡ count_by (λ v. int_le v word.now) words.now }
 {
     words.iter().filter(|w| **w <= *word).count()
@@ -43,7 +43,7 @@ pub fn majority(words: &[i64], voters: u8) -> Option<i64>
     words
         .iter()
         .copied()
-        .find(|w| usize::from(voters) < 2 * equal(words, w))
+        .find(|w| usize::from(voters) < 2 * count_equal(words, w))
 }
 
 // Whether a word stands at place (k - 1) / 2 of the ascending order of these k words.
@@ -51,7 +51,7 @@ fn is_middle(words: &[i64], word: &i64) -> bool
     ensures { result ≡ stands_in_middle words.now word.now }
 {
     let middle = words.len().saturating_sub(1) / 2;
-    less(words, word) <= middle && middle < at_most(words, word)
+    count_less(words, word) <= middle && middle < count_at_most(words, word)
 }
 
 // The first word that stands in the middle.

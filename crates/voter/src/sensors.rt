@@ -34,7 +34,7 @@ fn input_at(words: &[Option<SourceWord>; 7], active: ChanSet, place: usize) -> i
 }
 
 // A set is that of the channels that it has.
-fn know_members(set: ChanSet)
+fn prove_members(set: ChanSet)
     ensures { set ≡ channels_where (has set) }
 {
     let _ = set.flags();
@@ -58,7 +58,7 @@ pub fn consolidate(words: &[Option<SourceWord>; 7], active: ChanSet, width: u8) 
     ensures greatest { (disturbed : ChannelSet) → OthersAreThere active disturbed words.now → (k : ℕ) → k < width →
         (w : ℤ) × IsOthersWord active disturbed words.now k w × (word_of result k ≤ℤ w) }
 {
-    know_members(active);
+    prove_members(active);
     let mut inputs = [0; 4];
     for place in 0..usize::from(width) {
         inputs[place] = input_at(words, active, place);

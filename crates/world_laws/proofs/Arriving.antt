@@ -23,7 +23,7 @@ use Rattle.guards_laws.proofs.CycleParts.{active-is}
 use Rattle.guards_laws.proofs.Planned.{targets_set, joined_set}
 use Rattle.guards_laws.proofs.WithinChannels.{active_is_set}
 use Rattle.node_laws.proofs.Holding.{all_of_flat}
-use Rattle.world_laws.specs.Passing.{Arrives, is_between}
+use Rattle.guards_world.specs.Passing.{Arrives, is_carry_between}
 
 -- ---- carries that are apart
 
@@ -201,20 +201,20 @@ no_match true true d h = h
 no_match true false d h = refl
 no_match false b d h = refl
 
-none_found : (M : MissionValue) (past : Past) (e : Cycle) (steps : Steps) (c : ℕ) (slot : Slot) (from to : ℕ) (carries : List Carry) (new : Log) → list_any (is_between from to) carries ≡ false →
+none_found : (M : MissionValue) (past : Past) (e : Cycle) (steps : Steps) (c : ℕ) (slot : Slot) (from to : ℕ) (carries : List Carry) (new : Log) → list_any (is_carry_between from to) carries ≡ false →
     AllZip (λ k y. IsMadeBy M past e (steps_of steps k.from) k y) carries new → find (is_carry c slot from to) new ≡ None
 none_found M past e steps c slot from to [] [] h z = refl
 none_found M past e steps c slot from to [] (y ∷ new) h z = absurd z
 none_found M past e steps c slot from to (x ∷ carries) [] h z = absurd z
 none_found M past e steps c slot from to (x ∷ carries) (y ∷ new) h z =
-    let parts = no_first (is_between from to x) (list_any (is_between from to) carries) h in
+    let parts = no_first (is_carry_between from to x) (list_any (is_carry_between from to) carries) h in
     let other : (y.from == from && y.to == to) ≡ false =
     subst (λ f. (f == from && y.to == to) ≡ false) (sym z.0.from) (subst (λ t. (x.from == from && t == to) ≡ false) (sym z.0.to) parts.0) in
     ap (λ b. cond b (Some y) (find (is_carry c slot from to) new)) (no_match (y.cycle == c && same_slot y.slot slot) (y.from == from) (y.to == to) other)
     ∙ none_found M past e steps c slot from to carries new parts.1 z.1
 
 pub nothing_else : (M : MissionValue) (past : Past) (e : Cycle) (steps : Steps) (c : ℕ) (slot : Slot) (from to : ℕ) (carries : List Carry) (now new : Log) →
-    list_any (is_between from to) carries ≡ false → list_all (λ (y : EntryValue). nat_lt (slot_index y.slot) (slot_index slot)) now ≡ true →
+    list_any (is_carry_between from to) carries ≡ false → list_all (λ (y : EntryValue). nat_lt (slot_index y.slot) (slot_index slot)) now ≡ true →
     AllZip (λ k y. IsMadeBy M past e (steps_of steps k.from) k y) carries new → received_body M (now ++ new) c slot from to ≡ None
 nothing_else M past e steps c slot from to carries now new absent early z =
     ap (λ o. option_and_then (counting (format_of M) c slot from to) (option_and_then frame_in (option_and_then (λ (w : EntryValue). w.delivered) o)))

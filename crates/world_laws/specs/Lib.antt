@@ -1,1 +1,3 @@
-pub mod Passing
+pub mod Staying
+pub mod Ended
+pub mod Fronts

@@ -13,7 +13,7 @@ ghost use Rattle.guards_runs.specs.Due.{slot_carries};
 ghost use Rattle.guards_runs.specs.Promises.{DecideAlike};
 ghost use Rattle.guards_world.specs.Worlds.{WorldValue, StandsForWorld};
 ghost use Rattle.guards_world.specs.InCycle.{InCycle};
-ghost use Rattle.world_laws.specs.Passing.{world_after, world_carried, world_in, AreCarried, Arrives, is_between, StopsIn, IsFront};
+ghost use Rattle.guards_world.specs.Passing.{world_after, world_carried, world_in, AreDueCarries, Arrives, is_carry_between, IsStopIn, IsFront};
 
 /// A world for which a log stands, and which has a cycle left, enters it; and within a cycle its nodes and its ledger enter
 /// a slot, or take what it carried.
@@ -31,17 +31,17 @@ pub fn slots_are_entered()
 pub fn slots_are_carried()
     ensures goes_on { (M : MissionValue) (L now new : Log) (steps : Steps) (slot : Slot) (w : WorldValue) → on_bus slot ≡ true →
         InCycle M L now steps slot (slot_index slot) (slot_index slot) w →
-        AreCarried M (L ++ now) w.done steps (slot_carries w.done (cycle_at M (L ++ now) w.done) slot) new →
+        AreDueCarries M (L ++ now) w.done steps (slot_carries w.done (cycle_at M (L ++ now) w.done) slot) new →
         halts w.done (cycle_at M (L ++ (now ++ new)) w.done) slot ≡ false →
         InCycle M L (now ++ new) steps slot (suc (slot_index slot)) (slot_index slot) (world_carried (length new) w) }
     ensures stops { (M : MissionValue) (L now new : Log) (steps : Steps) (slot : Slot) (w : WorldValue) → on_bus slot ≡ true →
         InCycle M L now steps slot (slot_index slot) (slot_index slot) w →
-        AreCarried M (L ++ now) w.done steps (slot_carries w.done (cycle_at M (L ++ now) w.done) slot) new →
+        AreDueCarries M (L ++ now) w.done steps (slot_carries w.done (cycle_at M (L ++ now) w.done) slot) new →
         halts w.done (cycle_at M (L ++ (now ++ new)) w.done) slot ≡ true →
-        StopsIn M L (now ++ new) w.done steps slot }
+        IsStopIn M L (now ++ new) w.done steps slot }
     ensures breaks_off { (M : MissionValue) (L now new : Log) (steps : Steps) (slot : Slot) (w : WorldValue) (few : ℕ) → on_bus slot ≡ true →
         InCycle M L now steps slot (slot_index slot) (slot_index slot) w →
-        AreCarried M (L ++ now) w.done steps (take few (slot_carries w.done (cycle_at M (L ++ now) w.done) slot)) new →
+        AreDueCarries M (L ++ now) w.done steps (take few (slot_carries w.done (cycle_at M (L ++ now) w.done) slot)) new →
         IsFront M L (now ++ new) w.done }
 {}
 
@@ -50,18 +50,18 @@ pub fn slots_are_carried()
 pub fn pieces_arrive()
     ensures each { (M : MissionValue) (L now new : Log) (steps : Steps) (slot : Slot) (w : WorldValue) → on_bus slot ≡ true →
         InCycle M L now steps slot (slot_index slot) (slot_index slot) w →
-        AreCarried M (L ++ now) w.done steps (slot_carries w.done (cycle_at M (L ++ now) w.done) slot) new →
+        AreDueCarries M (L ++ now) w.done steps (slot_carries w.done (cycle_at M (L ++ now) w.done) slot) new →
         AllZip (Arrives M (cycle_at M (L ++ (now ++ new)) w.done).entries)
         (slot_carries w.done (cycle_at M (L ++ now) w.done) slot) new }
     ensures slot_alone { (M : MissionValue) (L now new : Log) (steps : Steps) (slot : Slot) (w : WorldValue) (from to : ℕ) →
         on_bus slot ≡ true → InCycle M L now steps slot (slot_index slot) (slot_index slot) w →
-        AreCarried M (L ++ now) w.done steps (slot_carries w.done (cycle_at M (L ++ now) w.done) slot) new →
+        AreDueCarries M (L ++ now) w.done steps (slot_carries w.done (cycle_at M (L ++ now) w.done) slot) new →
         received_body M (cycle_at M (L ++ (now ++ new)) w.done).entries w.done slot from to
         ≡ received_body M new w.done slot from to }
     ensures nothing_else { (M : MissionValue) (L now new : Log) (steps : Steps) (slot : Slot) (w : WorldValue) (from to : ℕ) →
         on_bus slot ≡ true → InCycle M L now steps slot (slot_index slot) (slot_index slot) w →
-        AreCarried M (L ++ now) w.done steps (slot_carries w.done (cycle_at M (L ++ now) w.done) slot) new →
-        list_any (is_between from to) (slot_carries w.done (cycle_at M (L ++ now) w.done) slot) ≡ false →
+        AreDueCarries M (L ++ now) w.done steps (slot_carries w.done (cycle_at M (L ++ now) w.done) slot) new →
+        list_any (is_carry_between from to) (slot_carries w.done (cycle_at M (L ++ now) w.done) slot) ≡ false →
         received_body M (cycle_at M (L ++ (now ++ new)) w.done).entries w.done slot from to ≡ None }
 {}
 

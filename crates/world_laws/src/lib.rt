@@ -2,6 +2,14 @@
 //! cycle. Each is the contract of a function without a body.
 #![tactic(auto)]
 
+mod carried;
+mod counts;
+mod cycle;
+mod ending;
+mod fronts;
+mod sends;
+mod staying;
+
 ghost use Rattle.std.specs.Prelude.{◌≡◌, ◌≤◌, ◌<◌, true, ℕ, [], ◌∷◌};
 ghost use Rattle.std.specs.List.{list_any};
 ghost use Rattle.guards_model.specs.declared.Slot.{Slot};
@@ -20,11 +28,15 @@ ghost use Rattle.guards_world.specs.SlotSteps.{begins_to_join};
 ghost use Rattle.guards_world.specs.Worlds.{WorldValue, StandsForWorld, first_world};
 ghost use Rattle.guards_world.specs.InCycle.{ledger_in};
 
-mod cycle;
-
+pub use carried::slots_end;
+pub use counts::entries_fit;
 pub use cycle::{
     pieces_arrive, rounds_settle_decisions, slots_are_carried, slots_are_entered, worlds_go_on,
 };
+pub use ending::{cycles_finish, cycles_run_out, cycles_stop};
+pub use fronts::fronts_end_at_stops;
+pub use sends::sends_are_due;
+pub use staying::{channels_run, decisions_stay, full_stays, later_slots_follow, steps_come_later};
 
 /// The ledger goes from cycle to cycle and from slot to slot as the facts say: it has their modes and their marks of damage.
 pub fn ledger_follows()

@@ -5,7 +5,7 @@ use Rattle.guards_model.specs.Channels.{Channel, ChannelSet, has, union}
 use Rattle.guards_model.specs.Frames.{final_body, FinalValue, counts_in_range, control_in_range, is_channel, fits_u32, law_in_range, names_law, is_set}
 use Rattle.guards_model.proofs.BoolTests.{both, and_true}
 use Rattle.guards_model.proofs.Tables.{has-channels_where}
-use Rattle.world_nodes.specs.NodeLists.{Bodies, AreInRange}
+use Rattle.guards_world.specs.NodeLists.{Bodies, AreInRange}
 
 pub counts_fit : (got : Bodies) (j q : ℕ) (f : FinalValue) → AreInRange got → got j q ≡ Some (final_body f) → counts_in_range f.control.counts ≡ true
 counts_fit got j q f ranges h =

@@ -9,7 +9,7 @@ use Rattle.guards_nodes.specs.NodeStates.{ExchangeTreeValue, StateValue, running
 use Rattle.guards_nodes.specs.NodeSteps.{Received, StandsFor, TreeStandsFor, tree_for, with_items, after_exchange}
 use Rattle.guards_nodes.specs.NodeCalls.{in_state, on_running, changed, HasReceived}
 use Rattle.guards_world.specs.SlotSteps.{with_round}
-use Rattle.world_nodes.specs.NodeLists.{AllReceived, after_exchanges, IsNewOf, tree_in, MayTake, MayReceive}
+use Rattle.guards_world.specs.NodeLists.{AllReceived, after_exchanges, IsNewOf, tree_in, MayTake, MayReceive}
 
 -- ---- what stays of a tree
 

@@ -1,9 +1,9 @@
 pub mod Damages
-pub mod Numbers
+pub mod NumbersBelowMore
 pub mod Changes
-pub mod Endings
+pub mod NodeModes
 pub mod Exchanges
 pub mod Contents
-pub mod Deciding
+pub mod NodesDecided
 pub mod Traces
 pub mod Crossing

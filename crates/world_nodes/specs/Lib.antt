@@ -1,2 +1,1 @@
-pub mod NodeLists
 pub mod NodeWork

@@ -1,6 +1,6 @@
 //! The end of a cycle.
 ghost use Rattle.std.specs.Prelude.{◌≡◌, length, map, All};
-ghost use Rattle.world_nodes.specs.NodeLists.{TookContent, ended_on};
+ghost use Rattle.guards_world.specs.NodeLists.{TookContent, ended_on};
 
 use crate::nodes::Nodes;
 use channel_node::Node;

@@ -4,7 +4,7 @@ ghost use Rattle.std.specs.List.{list_all, list_any};
 ghost use Rattle.guards_model.specs.Channels.{Channel, has};
 ghost use Rattle.guards_model.specs.Frames.{counts_in_range};
 ghost use Rattle.guards_model.specs.Replicas.{final_content};
-ghost use Rattle.world_nodes.specs.NodeLists.{finals_of, with_finals, takes, AreInRange};
+ghost use Rattle.guards_world.specs.NodeLists.{finals_of, with_finals, takes, AreInRange};
 
 use crate::arrived::Arrived;
 use crate::channels::every_channel;

@@ -2,7 +2,7 @@
 ghost use Rattle.std.specs.Prelude.{◌≡◌, ◌++◌, [], ◌∷◌, length, map, filter, filter_map, OnOk, IfOk};
 ghost use Rattle.guards_model.specs.Channels.{has};
 ghost use Rattle.guards_model.specs.Replicas.{sweep_content};
-ghost use Rattle.world_nodes.specs.NodeLists.{sweeps_of, with_sweeps};
+ghost use Rattle.guards_world.specs.NodeLists.{sweeps_of, with_sweeps};
 
 use crate::arrived::Arrived;
 use crate::channels::every_channel;

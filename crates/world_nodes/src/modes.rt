@@ -1,6 +1,6 @@
 //! The crashes of a slot.
 ghost use Rattle.std.specs.Prelude.{◌≡◌, length, map};
-ghost use Rattle.world_nodes.specs.NodeLists.{fallen_if};
+ghost use Rattle.guards_world.specs.NodeLists.{fallen_if};
 
 use crate::nodes::Nodes;
 use channel_node::Node;

@@ -27,11 +27,11 @@ impl Model for Nodes {
 
 impl Nodes {
     /// The nodes of a mission before its first cycle.
-    #[tactic(auto, using(crate::proofs::Numbers::first_more))]
+    #[tactic(auto, using(crate::proofs::NumbersBelowMore::first_more))]
     pub fn first(alloc: Global, mission: &Mission) -> Result<Nodes, AllocError>
         ensures { IfOk result (λ nodes. nodes ≡ map (first_node mission.now) (channels_of mission.now)) }
     {
-        mission.know_sizes();
+        mission.prove_sizes();
         let mut list = Vec::new(alloc);
         for number in 0..mission.rules().channels {
             let channel = Chan::new(number).unwrap();

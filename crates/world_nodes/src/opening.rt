@@ -5,7 +5,7 @@ ghost use Rattle.guards_model.specs.Missions.{is_fault};
 ghost use Rattle.fault_script.specs.Entries.{fault_value};
 ghost use Rattle.guards_nodes.specs.NodeCalls.{changed};
 ghost use Rattle.guards_world.specs.SlotSteps.{after_damages};
-ghost use Rattle.world_nodes.specs.NodeLists.{MayOpen, opened_with, opened_node};
+ghost use Rattle.guards_world.specs.NodeLists.{MayOpen, opened_with, opened_node};
 
 use crate::nodes::Nodes;
 use channel_node::Node;
@@ -53,7 +53,7 @@ fn damage(node: &mut Node, mission: &Mission, cycle: u32)
     requires { mission.now.rules ≡ node.old.rules }
     ensures { node.new ≡ changed (after_damages mission.now.script node.old.channel cycle) node.old }
 {
-    mission.is_mission();
+    mission.prove_mission();
     damage_by(node, mission, mission.script().others(), cycle);
 }
 

@@ -4,7 +4,7 @@ ghost use Rattle.guards_model.specs.Channels.{every_channel};
 ghost use Rattle.guards_model.specs.Network.{have_of};
 ghost use Rattle.guards_nodes.specs.NodeCalls.{changed};
 ghost use Rattle.guards_world.specs.SlotSteps.{heard_if, after_requests};
-ghost use Rattle.world_nodes.specs.NodeLists.{with_requests};
+ghost use Rattle.guards_world.specs.NodeLists.{with_requests};
 
 use crate::arrived::Arrived;
 use crate::channels::every_channel;

@@ -6,8 +6,8 @@ ghost use Rattle.guards_model.specs.Frames.{is_distinct};
 ghost use Rattle.guards_model.specs.Network.{items_of};
 ghost use Rattle.guards_nodes.specs.NodeSteps.{Received};
 ghost use Rattle.guards_nodes.specs.NodeCalls.{changed};
-ghost use Rattle.oral_messages.specs.Received.{IsInRange, items_in};
-ghost use Rattle.world_nodes.specs.NodeLists.{AllReceived, after_exchanges, with_exchanges, AreOfRound, AreInRange, MayTake, MayReceive};
+ghost use Rattle.oral_messages.specs.Received.{IsExchangeInRange, items_of_frame};
+ghost use Rattle.guards_world.specs.NodeLists.{AllReceived, after_exchanges, with_exchanges, AreOfRound, AreInRange, MayTake, MayReceive};
 
 use crate::arrived::Arrived;
 use crate::channels::every_channel;
@@ -20,8 +20,8 @@ use icn_frames::{Body, Exchange};
 fn exchange<A: Arrived>(arrived: &A, round: u8, from: Chan, me: Chan) -> Option<&Exchange>
     requires rounds { AreOfRound round (A.got arrived.now) }
     requires ranges { AreInRange (A.got arrived.now) }
-    ensures items { items_in (option_copied result) ≡ items_of (A.got arrived.now from me) }
-    ensures range { IsInRange (option_copied result) round from }
+    ensures items { items_of_frame (option_copied result) ≡ items_of (A.got arrived.now from me) }
+    ensures range { IsExchangeInRange (option_copied result) round from }
 {
     let _ = round;
     match arrived.body(from, me.index()) {

@@ -2,7 +2,7 @@
 ghost use Rattle.std.specs.Prelude.{◌≡◌, ◌++◌, length, map, filter_map, All, OnOk, IfOk};
 ghost use Rattle.std.specs.Option.{option_to_list};
 ghost use Rattle.guards_model.specs.Network.{ballot_of};
-ghost use Rattle.world_nodes.specs.NodeLists.{ballots_at, with_votes, line_with, HasDecision};
+ghost use Rattle.guards_world.specs.NodeLists.{ballots_arrived, with_votes, vote_line, HasDecision};
 
 use crate::arrived::Arrived;
 use crate::nodes::Nodes;
@@ -29,7 +29,7 @@ fn ballot<A: Arrived>(arrived: &A, from: Chan, me: Chan) -> Option<Ballot>
 // The ballots that arrived at a channel.
 #[tactic(auto, unfolding(guards_model::specs::Channels::by_channel))]
 fn ballots<A: Arrived>(arrived: &A, me: Chan) -> [Option<Ballot>; 7]
-    ensures { result ≡ ballots_at (A.got arrived.now) me }
+    ensures { result ≡ ballots_arrived (A.got arrived.now) me }
 {
     [
         ballot(arrived, channel(0), me),
@@ -46,7 +46,7 @@ fn ballots<A: Arrived>(arrived: &A, me: Chan) -> [Option<Ballot>; 7]
 fn vote_one<A: Arrived>(node: &mut Node, mission: &Mission, arrived: &A) -> Option<ChannelLine>
     requires { HasDecision mission.now node.old }
     ensures state { node.new ≡ with_votes mission.now (A.got arrived.now) node.old }
-    ensures line { result ≡ line_with mission.now (A.got arrived.now) node.old }
+    ensures line { result ≡ vote_line mission.now (A.got arrived.now) node.old }
 {
     match node.mode() {
         Mode::Up => Some(node.take_votes(mission, &ballots(arrived, node.channel()))),
@@ -72,7 +72,7 @@ fn vote_each<A: Arrived>(
 ) -> Result<(), AllocError>
     requires { All (HasDecision mission.now) nodes.old }
     ensures state { OnOk result (nodes.new ≡ map (with_votes mission.now (A.got arrived.now)) nodes.old) }
-    ensures lines { OnOk result (lines.new.items ≡ lines.old.items ++ filter_map (line_with mission.now (A.got arrived.now)) nodes.old) }
+    ensures lines { OnOk result (lines.new.items ≡ lines.old.items ++ filter_map (vote_line mission.now (A.got arrived.now)) nodes.old) }
 {
     if let Some((node, rest)) = nodes.split_first_mut() {
         let line = vote_one(node, mission, arrived);
@@ -93,7 +93,7 @@ impl Nodes {
     ) -> Result<Lines, AllocError>
         requires { All (HasDecision mission.now) self.old }
         ensures state { OnOk result (self.new ≡ map (with_votes mission.now (A.got arrived.now)) self.old) }
-        ensures lines { IfOk result (λ lines. lines.items ≡ filter_map (line_with mission.now (A.got arrived.now)) self.old) }
+        ensures lines { IfOk result (λ lines. lines.items ≡ filter_map (vote_line mission.now (A.got arrived.now)) self.old) }
         ensures count { length self.new ≡ length self.old }
     {
         let mut lines = Lines::new(alloc);

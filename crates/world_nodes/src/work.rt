@@ -3,7 +3,7 @@ ghost use Rattle.std.specs.Prelude.{◌≡◌, ◌++◌, length, filter_map, All
 ghost use Rattle.std.specs.List.{AllZip};
 ghost use Rattle.std.specs.Option.{option_to_list};
 ghost use Rattle.std.specs.Thread.{IsSync};
-ghost use Rattle.world_nodes.specs.NodeLists.{HasDecision};
+ghost use Rattle.guards_world.specs.NodeLists.{HasDecision};
 ghost use Rattle.world_nodes.specs.NodeWork.{WorksOrStays, trace_of};
 
 use crate::beside::each_beside;

@@ -5,7 +5,7 @@ use Rattle.guards_model.specs.Missions.{MissionValue, IsMission, within}
 use Rattle.guards_model.specs.Network.{Log}
 use Rattle.guards_world.specs.Worlds.{WorldValue, StandsForWorld, first_world, last_entries}
 use Rattle.guards_world.specs.WorldCycle.{BusValue, MayCycle}
-use Rattle.world_laws.proofs.Standing.{first_stands}
+use Rattle.world_laws.proofs.LogStands.{first_stands}
 
 positive : (n : ℕ) → within 1 2000 n ≡ true → 0 < n
 positive zero h = absurd cc

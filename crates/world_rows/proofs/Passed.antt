@@ -6,10 +6,10 @@ use Rattle.guards_model.specs.Missions.{MissionValue, IsMission, bus_rules}
 use Rattle.guards_model.specs.Network.{EntryValue}
 use Rattle.guards_model.specs.Texts.{RecordValue}
 use Rattle.guards_world.specs.Worlds.{WorldValue, HaltValue, disturbed, no_memory, first_world}
-use Rattle.guards_world.specs.WorldCycle.{BusValue, CycleOf, MayCycle}
+use Rattle.guards_world.specs.WorldCycle.{BusValue, PassesCycle, MayCycle}
 use Rattle.icn_world.specs.declared.world.Halt.{Halt}
 use Rattle.icn_world.specs.Halts.{halt_value, with_halt_value}
-use Rattle.run_laws.proofs.Passing.{begins, may_cycle, passes_on}
+use Rattle.run_laws.proofs.RunPassed.{begins, may_cycle, passes_on}
 use Rattle.world_rows.specs.Driving.{IsRunning}
 
 -- a cycle finished, or halted
@@ -29,7 +29,7 @@ module _ {may : List RuleValue → EntryValue → Type 0} where
   may_pass w bus runs below = may_cycle may runs.start bus w runs.entries runs.entries runs.histories runs.mission runs.at below
 
   again : (w : WorldValue) (bus : BusValue) (halt : HaltValue) (new : WorldValue) (after : BusValue) → w.done < w.mission.cycles →
-      CycleOf may None w bus (Err halt) new after → MayCycle new after
+      PassesCycle may None w bus (Err halt) new after → MayCycle new after
   again w bus (disturbed stop) new after below cycled =
       let stopped = cycled.3.2 in
       record { below = omega (arith, below, stopped.done, ap (λ (M : MissionValue). M.cycles) stopped.mission); stands = λ unspent. absurd (cc (unspent, stopped.spent)) }
@@ -38,7 +38,7 @@ module _ {may : List RuleValue → EntryValue → Type 0} where
       record { below = omega (arith, below, stopped.done, ap (λ (M : MissionValue). M.cycles) stopped.mission); stands = λ unspent. absurd (cc (unspent, stopped.spent)) }
 
   pub passed : (w : WorldValue) (bus : BusValue) (result : Result RecordValue Halt) (new : WorldValue) (after : BusValue) → IsRunning may w bus →
-      w.done < w.mission.cycles → CycleOf may w.spent w bus (with_halt_value result) new after → Passed may w result new after
+      w.done < w.mission.cycles → PassesCycle may w.spent w bus (with_halt_value result) new after → Passed may w result new after
   passed w bus (Ok part) new after runs below cycled =
       let on = passes_on may runs.start bus w runs.entries runs.entries runs.histories runs.mission (Ok part) new after runs.at below cycled (λ fresh is. absurd (cc is)) in
       record {
@@ -48,5 +48,5 @@ module _ {may : List RuleValue → EntryValue → Type 0} where
         halted = tt;
       }
   passed w bus (Err halt) new after runs below cycled =
-      let fresh = subst (λ s. CycleOf may s w bus (Err (halt_value halt)) new after) runs.at.unspent cycled in
+      let fresh = subst (λ s. PassesCycle may s w bus (Err (halt_value halt)) new after) runs.at.unspent cycled in
       record { running = tt; one_more = tt; same = tt; halted = again w bus (halt_value halt) new after below fresh }

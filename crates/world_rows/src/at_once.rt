@@ -29,7 +29,7 @@ fn first_cycle<G: Gate, R: Threads + Wait + Sync>(
     mission: Mission,
     gate: &G,
 ) -> Result<usize, Halt> {
-    mission.is_mission();
+    mission.prove_mission();
     let mut bus = MemBus::new(alloc, Acts::new(alloc));
     let mut world = World::start(alloc, mission)?;
     let part = world.cycle(rt, alloc, &mut bus, gate, &Plain)?;

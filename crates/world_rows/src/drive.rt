@@ -60,7 +60,7 @@ fn tell(
     mission: &Mission,
     part: &CycleRecord,
 ) -> Result<(), AllocError> {
-    mission.know_sizes();
+    mission.prove_sizes();
     let channels = mission.rules().channels;
     let width = mission.width();
     let outputs = mission.outputs().len() as u8;
@@ -178,7 +178,7 @@ pub fn run_mission<B: Bus, G: Gate, R: Threads + Wait + Sync>(
     let Ok(mission) = read(alloc, text.as_bytes()) else {
         return Ok(None);
     };
-    mission.is_mission();
+    mission.prove_mission();
     bus.load(mission.script().rules())?;
     let world = World::start(alloc, mission)?;
     Ok(Some(told(rt, alloc, world, bus, gate)?))

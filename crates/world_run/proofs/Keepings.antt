@@ -5,7 +5,7 @@ use Rattle.std.specs.Io.KnownBytes.{Appends}
 use Rattle.std.proofs.lemmas.List.{map-append}
 use Rattle.circular_buffer.specs.Buffer.{keep_last}
 use Rattle.flight_log.specs.Kept.{Kept, kept}
-use Rattle.flight_log.proofs.Keeping.{kept_again}
+use Rattle.flight_log.proofs.LastKept.{kept_again}
 use Rattle.guards_model.specs.BusRules.{RuleValue}
 use Rattle.guards_model.specs.Missions.{ActuatorValue, MissionValue}
 use Rattle.guards_model.specs.Records.{shown}
@@ -14,23 +14,23 @@ use Rattle.guards_model.specs.Rounds.{Histories}
 use Rattle.guards_model.specs.Texts.{TextValue, Part, RecordValue, StopValue, part_text, cycle_part, stop_line}
 use Rattle.guards_world.specs.Worlds.{WorldValue, first_world}
 use Rattle.guards_world.specs.WorldCycle.{BusValue}
-use Rattle.ideal_run.specs.Report.{head, last}
+use Rattle.guards_runs.specs.IdealReport.{head, last}
 use Rattle.ideal_run.specs.Writes.{SinkView, AppendsPart}
 use Rattle.ideal_run.specs.declared.output.WriteStop.{WriteStop}
 use Rattle.ideal_run.specs.declared.output.WriteStop.TheVariants as write
 use Rattle.icn_world.specs.declared.world.Halt.{Halt}
 use Rattle.icn_world.specs.declared.world.Halt.TheVariants as halt
 use Rattle.icn_world.specs.Halts.{halt_value}
-use Rattle.run_laws.specs.Runs.{Ran, with_head}
+use Rattle.run_laws.specs.Runs.{HasCarried, with_head}
 use Rattle.output_gate.specs.Gates.{GateValue}
-use Rattle.acted_runs.specs.Driving.{CyclesRan, RunStopped, RunBroken, IsDriven, Drives, last_told, parts_told, short_told, with_words}
-use Rattle.acted_runs.proofs.Driving.{driven_mission, driven_cycles, driven_log, driven_ran, driven_short}
-use Rattle.acted_runs.proofs.Ends.{stopped_cycle, short_is_whole, short_is_stopped}
+use Rattle.run_laws.specs.Driving.{CyclesRan, RunStopped, RunBroken, IsDriven, Drives, last_told, parts_told, short_told, with_words}
+use Rattle.run_laws.proofs.Driving.{driven_mission, driven_cycles, driven_log, driven_ran, driven_short}
+use Rattle.run_laws.proofs.Ends.{stopped_cycle, short_is_whole, short_is_stopped}
 use Rattle.world_run.specs.declared.stop.RunStop.{RunStop}
 use Rattle.world_run.specs.declared.stop.RunStop.TheVariants.{Disturbed, WriteFault, NoMemory}
-use Rattle.world_run.specs.Running.{Puts, Refuses, cycle_text, stop_text, stop_value, told_by}
+use Rattle.world_run.specs.Running.{Puts, WritesLine, cycle_text, stop_text, stop_value, run_told_by}
 use Rattle.world_run.specs.Keeping.{IsKept, Keeps, KeepsTo, KeptToHalt, KeptToStop, RunsLast, RunsToStopLast, TellsKept, kept_text}
-use Rattle.world_run.proofs.Steps.{head_is, last_is, part_is, stop_is}
+use Rattle.world_run.proofs.RunSteps.{head_is, last_is, part_is, stop_is}
 
 module _ (may : List RuleValue → EntryValue → Type 0) (k : ℕ) (trace : Bool) (M : MissionValue) (o : Option ActuatorValue) (start : BusValue) (w : WorldValue) (bus : BusValue) (gate : Option GateValue) (log : Kept) where
   pub kept_mission : IsKept may k trace M o start w bus gate log → w.mission ≡ M
@@ -129,7 +129,7 @@ module _ (may : List RuleValue → EntryValue → Type 0) (k : ℕ) (trace : Boo
     ran_all : CyclesRan o M M.cycles at.0 at.1
     ran_all = subst (λ n. CyclesRan o M n at.0 at.1) all (driven_ran may M start w bus gate at.0 at.1 o at.2)
 
-    log_all : Ran may M start bus at.0
+    log_all : HasCarried may M start bus at.0
     log_all = driven_log may M start w bus gate at.0 at.1 o at.2
 
     text_is : kept_text (head M) log.parts ++ last M ≡ short_told k o trace M at.0 at.1
@@ -140,7 +140,7 @@ module _ (may : List RuleValue → EntryValue → Type 0) (k : ℕ) (trace : Boo
         ∙ ap (λ line. with_head M texts ++ line) (last_is M)
         ∙ sym (short_is_whole M at.0 at.1 trace k o ran_all)
 
-    pub last_done : (r : Result (Unit {0}) WriteStop) → Puts out out' (kept_text (head M) log.parts ++ last M) r → RunsLast may k trace M o start bus out out' (told_by r)
+    pub last_done : (r : Result (Unit {0}) WriteStop) → Puts out out' (kept_text (head M) log.parts ++ last M) r → RunsLast may k trace M o start bus out out' (run_told_by r)
     last_done (Ok _) wrote = (at.0, at.1, log_all, ran_all, subst (Appends out.written out'.written) text_is wrote.0, wrote.1)
     last_done (Err write.Failed) wrote =
         (at.0, at.1, log_all, ran_all, subst (AppendsPart out.written out'.written) text_is wrote.0, wrote.1)
@@ -148,7 +148,7 @@ module _ (may : List RuleValue → EntryValue → Type 0) (k : ℕ) (trace : Boo
         (at.0, at.1, M.cycles, log_all, subst (λ n. RunBroken o M n at.0 at.1) all (driven_short may M start w bus gate at.0 at.1 o at.2), wrote)
 
   module _ (bus : BusValue) (log : Kept) (out out' : SinkView) where
-    stops : (s : StopValue) → KeptToStop may k trace M o s start bus log → Refuses out out' (kept_text (head M) log.parts ++ stop_text s) → RunsToStopLast may k trace M o s start bus out out'
+    stops : (s : StopValue) → KeptToStop may k trace M o s start bus log → WritesLine out out' (kept_text (head M) log.parts ++ stop_text s) → RunsToStopLast may k trace M o s start bus out out'
     stops s (L, histories, ran, to, broken, is) wrote =
         let texts = last_told k o trace M L histories s.cycle in
         let text : kept_text (head M) log.parts ++ stop_text s ≡ with_head M texts ++ stop_line s =
@@ -159,7 +159,7 @@ module _ (may : List RuleValue → EntryValue → Type 0) (k : ℕ) (trace : Boo
           ran,
           to,
           short_is_stopped M L histories trace k o s.cycle s to,
-          subst (Refuses out out') text wrote,
+          subst (WritesLine out out') text wrote,
         )
 
     pub last_halted : (h : Halt) (stop : RunStop) → KeptToHalt may k trace M o h start bus log → TellsKept h (kept_text (head M) log.parts) out out' stop → RunsLast may k trace M o start bus out out' (Err stop)

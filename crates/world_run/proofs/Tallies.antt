@@ -13,26 +13,26 @@ use Rattle.guards_model.specs.Texts.{LineValue, RecordValue, StopValue, part_tex
 use Rattle.guards_model.specs.CheckTexts.{summary_part}
 use Rattle.guards_model.proofs.BoolTests.{both}
 use Rattle.guards_runs.specs.Cycles.{Cycle, cycles_before, cycle_at}
-use Rattle.guards_runs.specs.Report.{line_of, running_in}
+use Rattle.guards_runs.specs.Report.{line_of, channels_running_in}
 use Rattle.guards_world.specs.Worlds.{WorldValue, disturbed, no_memory, first_world}
-use Rattle.guards_world.specs.WorldCycle.{BusValue, CycleOf}
+use Rattle.guards_world.specs.WorldCycle.{BusValue, PassesCycle}
 use Rattle.ideal_run.specs.Writes.{SinkView, AppendsPart}
 use Rattle.ideal_run.specs.declared.output.WriteStop.{WriteStop}
 use Rattle.ideal_run.specs.declared.output.WriteStop.TheVariants as write
 use Rattle.icn_world.specs.declared.world.Halt.{Halt}
 use Rattle.icn_world.specs.declared.world.Halt.TheVariants as halt
 use Rattle.icn_world.specs.Halts.{halt_value}
-use Rattle.cycle_laws.specs.Fronts.{CarriesUpToStop}
-use Rattle.run_laws.specs.Runs.{RanCycles, RanToStop, RanPart}
+use Rattle.world_laws.specs.Fronts.{CarriesUpToStop}
+use Rattle.run_laws.specs.Runs.{HasRunCycles, HasRunToStop, HasRunPart}
 use Rattle.run_laws.specs.Summaries.{joins_in, removals_in, summary}
-use Rattle.run_laws.proofs.Standing.{stop_breaks_off, stop_cycle}
-use Rattle.run_laws.proofs.Passing.{begins, passes_on, ran_cycles, ran_short}
+use Rattle.run_laws.proofs.RunContinues.{stop_breaks_off, stop_cycle}
+use Rattle.run_laws.proofs.RunPassed.{begins, passes_on, ran_cycles, ran_short}
 use Rattle.world_run.specs.declared.stop.RunStop.{RunStop}
 use Rattle.world_run.specs.declared.stop.RunStop.TheVariants.{Disturbed, WriteFault, NoMemory}
 use Rattle.world_run.specs.declared.tally.Tally.{Tally}
-use Rattle.world_run.specs.Running.{TellsHalt, Puts, Refuses, stop_text, stop_value, told_by}
+use Rattle.world_run.specs.Running.{TellsHalt, Puts, WritesLine, stop_text, stop_value, run_told_by}
 use Rattle.world_run.specs.Tallying.{IsTallyOf, IsTallied, Summarizes, SummarizesToStop, TalliesTo, first_votes, shown_votes, summary_of}
-use Rattle.world_run.proofs.Steps.{stop_is}
+use Rattle.world_run.proofs.RunSteps.{stop_is}
 
 -- the votes of the first line
 votes_of_first : List LineValue → List (Option ℤ)
@@ -59,7 +59,7 @@ module _ (may : List RuleValue → EntryValue → Type 0) (M : MissionValue) (st
       ([], [], begins may M start mission script, record { joins = joins; removals = removals; last = ap (shown_votes (length M.outputs)) last })
 
   module _ (number : ℕ) (w new : WorldValue) (bus after : BusValue) (out out' : SinkView) (t t' : Tally) (at : IsTallied may M start w bus t) (below : w.done < w.mission.cycles) where
-    pub tally_done : (part : RecordValue) → CycleOf may w.spent w bus (Ok part) new after → t'.joins ≡ t.joins + length part.joined → t'.removals ≡ t.removals + length part.removed →
+    pub tally_done : (part : RecordValue) → PassesCycle may w.spent w bus (Ok part) new after → t'.joins ≡ t.joins + length part.joined → t'.removals ≡ t.removals + length part.removed →
         t'.last ≡ first_votes part.lines → TalliesTo may number M start out (suc w.done) new after out t' (Ok tt)
     tally_done part cycled joins removals last =
         let (L, histories, between, tallied) = at in
@@ -68,7 +68,7 @@ module _ (may : List RuleValue → EntryValue → Type 0) (M : MissionValue) (st
         let e = cycle_at M K w.done in
         let joined : part.joined ≡ e.joined = ap (λ (r : RecordValue). r.joined) told in
         let removed : part.removed ≡ e.removed = ap (λ (r : RecordValue). r.removed) told in
-        let lines = first_shown M e part.lines (running_in Switch e) (ap (λ (r : RecordValue). r.lines) told) in
+        let lines = first_shown M e part.lines (channels_running_in Switch e) (ap (λ (r : RecordValue). r.lines) told) in
         let kept : IsTallyOf M (e ∷ cycles_before M K w.done) t' =
         record {
           joins = joins ∙ ap (λ n. n + length part.joined) (tallied.joins ∙ ap joins_in (sym same)) ∙ ap (λ (s : ChannelSet). joins_in (cycles_before M K w.done) + length s) joined;
@@ -77,26 +77,26 @@ module _ (may : List RuleValue → EntryValue → Type 0) (M : MissionValue) (st
         } in
         ((K, steps ∷ histories, next, subst (λ n. IsTallyOf M (cycles_before M K n) t') (sym done) kept), done, refl)
 
-    stops : (s : StopValue) → CycleOf may w.spent w bus (Err (disturbed s)) new after → Refuses out out' (stop_text s) → SummarizesToStop may number M s start after out out'
+    stops : (s : StopValue) → PassesCycle may w.spent w bus (Err (disturbed s)) new after → WritesLine out out' (stop_text s) → SummarizesToStop may number M s start after out out'
     stops s cycled line =
         let (L, histories, between, tallied) = at in
         let (now, ran, stopped, same) = passes_on may start bus w L L histories M (Err (disturbed s)) new after between below cycled (λ unspent none. absurd cc) in
         let at_cycle : s.cycle ≡ w.done = stop_cycle w.done (cycle_at M (L ++ now) w.done) s stopped.stopped in
-        (L ++ now, histories, ran, subst (λ n. RanToStop M n s (L ++ now) histories) (sym at_cycle) stopped, subst (Refuses out out') (stop_is s) line)
+        (L ++ now, histories, ran, subst (λ n. HasRunToStop M n s (L ++ now) histories) (sym at_cycle) stopped, subst (WritesLine out out') (stop_is s) line)
 
-    stops_short : (s : StopValue) → CycleOf may w.spent w bus (Err (disturbed s)) new after → out' ≡ out → Summarizes may number M start after out out' (Err NoMemory)
+    stops_short : (s : StopValue) → PassesCycle may w.spent w bus (Err (disturbed s)) new after → out' ≡ out → Summarizes may number M start after out out' (Err NoMemory)
     stops_short s cycled kept =
         let (L, histories, between, tallied) = at in
         let (now, ran, stopped, same) = passes_on may start bus w L L histories M (Err (disturbed s)) new after between below cycled (λ unspent none. absurd cc) in
         (L ++ now, histories, w.done, ran, stop_breaks_off M w.done s (L ++ now) histories stopped, kept)
 
-    runs_out : CycleOf may w.spent w bus (Err no_memory) new after → CarriesUpToStop w bus (Err no_memory) after → out' ≡ out → Summarizes may number M start after out out' (Err NoMemory)
+    runs_out : PassesCycle may w.spent w bus (Err no_memory) new after → CarriesUpToStop w bus (Err no_memory) after → out' ≡ out → Summarizes may number M start after out out' (Err NoMemory)
     runs_out cycled no_further kept =
         let (L, histories, between, tallied) = at in
         let (now, ran, part, same) = passes_on may start bus w L L histories M (Err no_memory) new after between below cycled no_further in
         (L ++ now, histories, w.done, ran, part, kept)
 
-    pub tally_halted : (h : Halt) (stop : RunStop) → CycleOf may w.spent w bus (Err (halt_value h)) new after → CarriesUpToStop w bus (Err (halt_value h)) after → TellsHalt h out out' stop → Summarizes may number M start after out out' (Err stop)
+    pub tally_halted : (h : Halt) (stop : RunStop) → PassesCycle may w.spent w bus (Err (halt_value h)) new after → CarriesUpToStop w bus (Err (halt_value h)) after → TellsHalt h out out' stop → Summarizes may number M start after out out' (Err stop)
     tally_halted (halt.Disturbed cycle slot set active) (Disturbed cycle' slot' set' active') cycled no_further line =
         subst (λ s. SummarizesToStop may number M s start after out out') (sym line.0) (stops (stop_value cycle slot set active) cycled line.1)
     tally_halted (halt.Disturbed cycle slot set active) WriteFault cycled no_further line = absurd line
@@ -107,8 +107,8 @@ module _ (may : List RuleValue → EntryValue → Type 0) (M : MissionValue) (st
 
   -- the summary of all cycles
   module _ (number : ℕ) (w : WorldValue) (bus : BusValue) (out out' : SinkView) (t : Tally) (at : IsTallied may M start w bus t) (all : w.done ≡ M.cycles) where
-    ran_all : RanCycles M M.cycles at.0 at.1
-    ran_all = subst (λ n. RanCycles M n at.0 at.1) all (ran_cycles may start bus w at.0 at.0 at.1 M at.2)
+    ran_all : HasRunCycles M M.cycles at.0 at.1
+    ran_all = subst (λ n. HasRunCycles M n at.0 at.1) all (ran_cycles may start bus w at.0 at.0 at.1 M at.2)
 
     text_is : summary_of number (length M.outputs) w.carried t ≡ summary number M at.0
     unfolding summary_of summary
@@ -120,9 +120,9 @@ module _ (may : List RuleValue → EntryValue → Type 0) (M : MissionValue) (st
         ∙ ap (λ n. part_text (summary_part number (joins_in cycles) (removals_in cycles) n (shown_votes (length M.outputs) t.last))) (sym at.2.stands.count)
         ∙ ap (λ (votes : List (Option ℤ)). part_text (summary_part number (joins_in cycles) (removals_in cycles) (length at.0) votes)) tallied.last
 
-    pub summary_done : (r : Result (Unit {0}) WriteStop) → Puts out out' (summary_of number (length M.outputs) w.carried t) r → Summarizes may number M start bus out out' (told_by r)
+    pub summary_done : (r : Result (Unit {0}) WriteStop) → Puts out out' (summary_of number (length M.outputs) w.carried t) r → Summarizes may number M start bus out out' (run_told_by r)
     summary_done (Ok _) wrote = (at.0, at.1, at.2.ran, ran_all, subst (Appends out.written out'.written) text_is wrote.0, wrote.1)
     summary_done (Err write.Failed) wrote =
         (at.0, at.1, at.2.ran, ran_all, subst (AppendsPart out.written out'.written) text_is wrote.0, wrote.1)
     summary_done (Err write.Memory) wrote =
-        (at.0, at.1, M.cycles, at.2.ran, subst (λ n. RanPart M n at.0 at.1) all (ran_short may start bus w at.0 at.0 at.1 M at.2), wrote)
+        (at.0, at.1, M.cycles, at.2.ran, subst (λ n. HasRunPart M n at.0 at.1) all (ran_short may start bus w at.0 at.0 at.1 M at.2), wrote)

@@ -9,7 +9,7 @@ use Rattle.guards_model.specs.Missions.{MissionValue, ActuatorValue}
 use Rattle.guards_model.specs.Network.{EntryValue, Log}
 use Rattle.guards_model.specs.Rounds.{Histories}
 use Rattle.guards_model.specs.Records.{shown}
-use Rattle.guards_model.specs.Texts.{TextValue, Part, RecordValue, StopValue, part_text, text_of, cycle_part, out_line, stop_line}
+use Rattle.guards_model.specs.Texts.{TextValue, Part, RecordValue, StopValue, part_text, text_of_parts, cycle_part, out_line, stop_line}
 use Rattle.guards_world.specs.Worlds.{WorldValue}
 use Rattle.guards_world.specs.WorldCycle.{BusValue}
 use Rattle.ideal_run.specs.Writes.{SinkView, AppendsPart, AppendsFront}
@@ -17,9 +17,9 @@ use Rattle.ideal_run.specs.declared.output.WriteStop.{WriteStop}
 use Rattle.ideal_run.specs.declared.output.WriteStop.TheVariants as write
 use Rattle.icn_world.specs.declared.world.Halt.{Halt}
 use Rattle.icn_world.specs.declared.world.Halt.TheVariants as halt
-use Rattle.run_laws.specs.Runs.{Ran, with_unfinished}
+use Rattle.run_laws.specs.Runs.{HasCarried, with_unfinished}
 use Rattle.output_gate.specs.Gates.{GateValue}
-use Rattle.acted_runs.specs.Driving.{CyclesRan, RunStopped, RunBroken, IsDriven, parts_of_whole, parts_so_far, told_text}
+use Rattle.run_laws.specs.Driving.{CyclesRan, RunStopped, RunBroken, IsDriven, parts_of_whole, parts_driven, told_text}
 use Rattle.world_run.specs.declared.stop.RunStop.{RunStop}
 use Rattle.world_run.specs.declared.stop.RunStop.TheVariants.{Disturbed, WriteFault, NoMemory}
 
@@ -55,8 +55,8 @@ Puts old new part (Err write.Failed) = AppendsPart old.written new.written part 
 Puts old new part (Err write.Memory) = new ≡ old
 
 -- A line was written, or, only where the sink's faults rose, a front of it.
-abbrev pub Refuses : SinkView → SinkView → TextValue → Type 0
-Refuses old new line =
+abbrev pub WritesLine : SinkView → SinkView → TextValue → Type 0
+WritesLine old new line =
     (Appends old.written new.written line × (new.faults ≡ old.faults))
     ⊎ (AppendsPart old.written new.written line × Rose old.faults new.faults)
 
@@ -71,7 +71,7 @@ pub record WroteParts (old new : Option (List ℕ)) (parts : List Part) (whole :
   pub tail : TextValue
   pub cut : part_text next ≡ front ++ tail
   pub proper : 0 < length tail
-  pub grew : Appends old new (text_of written ++ front)
+  pub grew : Appends old new (text_of_parts written ++ front)
 
 -- A text with its last line was written, or, only where the sink's faults rose, all but an end of this line.
 abbrev pub EndsWith : SinkView → SinkView → TextValue → TextValue → Type 0
@@ -86,44 +86,44 @@ module _ (may : List RuleValue → EntryValue → Type 0) (trace : Bool) (M : Mi
   -- All cycles ran, none stopped, and the report was written; where it is traced, by full histories whose copies were sent.
   abbrev pub RunsWhole : BusValue → BusValue → SinkView → SinkView → Type 0
   RunsWhole bus bus' out out' =
-      (L : Log) × (histories : Histories) × Ran may M bus bus' L × CyclesRan o M M.cycles L histories
+      (L : Log) × (histories : Histories) × HasCarried may M bus bus' L × CyclesRan o M M.cycles L histories
       × Appends out.written out'.written (told_text o trace M L histories) × (out'.faults ≡ out.faults)
 
   -- The cycles before the stop ran, and its own up to the end of its slot. The report ends with the stop's line.
   abbrev pub RunsToStop : StopValue → BusValue → BusValue → SinkView → SinkView → Type 0
   RunsToStop stop bus bus' out out' =
-      (L : Log) × (histories : Histories) × (before : TextValue) × Ran may M bus bus' L × RunStopped o M stop.cycle stop L histories
+      (L : Log) × (histories : Histories) × (before : TextValue) × HasCarried may M bus bus' L × RunStopped o M stop.cycle stop L histories
       × (told_text o trace M L (with_unfinished (M.cycles - stop.cycle) histories) ≡ before ++ stop_line stop)
       × EndsWith out out' before (stop_line stop)
 
   -- The sink failed in the part after the first `whole` ones: so many cycles ran as have a part that was begun, each with its
   -- exchange, which comes before its part.
-  abbrev pub RunsUnwritten : BusValue → BusValue → SinkView → SinkView → Type 0
-  RunsUnwritten bus bus' out out' =
-      (L : Log) × (histories : Histories) × (whole : ℕ) × Ran may M bus bus' L × CyclesRan o M (min whole M.cycles) L histories
+  abbrev pub RunsToWriteFault : BusValue → BusValue → SinkView → SinkView → Type 0
+  RunsToWriteFault bus bus' out out' =
+      (L : Log) × (histories : Histories) × (whole : ℕ) × HasCarried may M bus bus' L × CyclesRan o M (min whole M.cycles) L histories
       × WroteParts out.written out'.written (parts_of_whole o trace M L histories (min whole M.cycles)) whole
       × Rose out.faults out'.faults
 
   -- Memory ran out: some cycles ran, and a front of the next one's entries was carried, none after a stop; a front of the text was
   -- written.
-  abbrev pub RunsShort : BusValue → BusValue → SinkView → SinkView → Type 0
-  RunsShort bus bus' out out' =
-      (L : Log) × (histories : Histories) × (n : ℕ) × Ran may M bus bus' L × RunBroken o M n L histories
-      × AppendsFront out.written out'.written (text_of (parts_so_far o trace M L histories n))
+  abbrev pub RunsOutOfMemory : BusValue → BusValue → SinkView → SinkView → Type 0
+  RunsOutOfMemory bus bus' out out' =
+      (L : Log) × (histories : Histories) × (n : ℕ) × HasCarried may M bus bus' L × RunBroken o M n L histories
+      × AppendsFront out.written out'.written (text_of_parts (parts_driven o trace M L histories n))
       × (out'.faults ≡ out.faults)
 
   -- What running the mission does, by its answer.
   abbrev pub Runs : BusValue → BusValue → SinkView → SinkView → Result (Unit {0}) RunStop → Type 0
   Runs bus bus' out out' (Ok _) = RunsWhole bus bus' out out'
   Runs bus bus' out out' (Err (Disturbed cycle slot set active)) = RunsToStop (stop_value cycle slot set active) bus bus' out out'
-  Runs bus bus' out out' (Err WriteFault) = RunsUnwritten bus bus' out out'
-  Runs bus bus' out out' (Err NoMemory) = RunsShort bus bus' out out'
+  Runs bus bus' out out' (Err WriteFault) = RunsToWriteFault bus bus' out out'
+  Runs bus bus' out out' (Err NoMemory) = RunsOutOfMemory bus bus' out out'
 
   -- Between two cycles of a run that began with this bus and this sink: the head line and the parts of the cycles were written.
   abbrev pub IsAt : BusValue → SinkView → WorldValue → BusValue → Option GateValue → SinkView → Type 0
   IsAt start begun w bus gate out =
       (L : Log) × (histories : Histories) × IsDriven o may M start w bus gate L histories
-      × Appends begun.written out.written (text_of (parts_so_far o trace M L histories w.done))
+      × Appends begun.written out.written (text_of_parts (parts_driven o trace M L histories w.done))
       × (out.faults ≡ begun.faults)
 
   -- what goes on with the run until n cycles ran does, by its answer
@@ -133,7 +133,7 @@ module _ (may : List RuleValue → EntryValue → Type 0) (trace : Bool) (M : Mi
 
 -- what telling a stop does: its line was written, or there was no memory for it
 abbrev pub TellsStop : StopValue → SinkView → SinkView → RunStop → Type 0
-TellsStop stop old new (Disturbed cycle slot set active) = (stop_value cycle slot set active ≡ stop) × Refuses old new (stop_text stop)
+TellsStop stop old new (Disturbed cycle slot set active) = (stop_value cycle slot set active ≡ stop) × WritesLine old new (stop_text stop)
 TellsStop stop old new WriteFault = ⊥
 TellsStop stop old new NoMemory = new ≡ old
 
@@ -143,7 +143,7 @@ TellsHalt (halt.Disturbed cycle slot set active) old new stop = TellsStop (stop_
 TellsHalt halt.NoMemory old new stop = (stop ≡ NoMemory) × (new ≡ old)
 
 -- how a run ends where a part was not written
-abbrev pub told_by : Result (Unit {0}) WriteStop → Result (Unit {0}) RunStop
-told_by (Ok done) = Ok done
-told_by (Err write.Failed) = Err WriteFault
-told_by (Err write.Memory) = Err NoMemory
+abbrev pub run_told_by : Result (Unit {0}) WriteStop → Result (Unit {0}) RunStop
+run_told_by (Ok done) = Ok done
+run_told_by (Err write.Failed) = Err WriteFault
+run_told_by (Err write.Memory) = Err NoMemory

@@ -12,12 +12,12 @@ use Rattle.guards_runs.specs.Cycles.{Past, cycles_before}
 use Rattle.guards_world.specs.Worlds.{WorldValue}
 use Rattle.guards_world.specs.WorldCycle.{BusValue}
 use Rattle.ideal_run.specs.Writes.{SinkView, AppendsPart}
-use Rattle.run_laws.specs.Runs.{Ran, RanCycles, RanToStop, RanPart, IsBetween}
+use Rattle.run_laws.specs.Runs.{HasCarried, HasRunCycles, HasRunToStop, HasRunPart, IsBetween}
 use Rattle.run_laws.specs.Summaries.{joins_in, removals_in, last_votes, summary}
 use Rattle.world_run.specs.declared.stop.RunStop.{RunStop}
 use Rattle.world_run.specs.declared.stop.RunStop.TheVariants.{Disturbed, WriteFault, NoMemory}
 use Rattle.world_run.specs.declared.tally.Tally.{Tally}
-use Rattle.world_run.specs.Running.{stop_value, Refuses}
+use Rattle.world_run.specs.Running.{stop_value, WritesLine}
 
 -- the votes of the first line
 abbrev pub first_votes : List LineValue → Option (List (Option ℤ))
@@ -48,21 +48,21 @@ module _ (may : List RuleValue → EntryValue → Type 0) (number : ℕ) (M : Mi
   -- the cycles before the stop ran, and its own up to the end of its slot; its line stands alone
   abbrev pub SummarizesToStop : StopValue → BusValue → BusValue → SinkView → SinkView → Type 0
   SummarizesToStop stop bus bus' out out' =
-      (L : Log) × (histories : Histories) × Ran may M bus bus' L × RanToStop M stop.cycle stop L histories
-      × Refuses out out' (stop_line stop)
+      (L : Log) × (histories : Histories) × HasCarried may M bus bus' L × HasRunToStop M stop.cycle stop L histories
+      × WritesLine out out' (stop_line stop)
 
   -- What running the mission for its summary does, by its answer: the five lines are one part, so where the sink failed all
   -- cycles ran.
   abbrev pub Summarizes : BusValue → BusValue → SinkView → SinkView → Result (Unit {0}) RunStop → Type 0
   Summarizes bus bus' out out' (Ok _) =
-      (L : Log) × (histories : Histories) × Ran may M bus bus' L × RanCycles M M.cycles L histories
+      (L : Log) × (histories : Histories) × HasCarried may M bus bus' L × HasRunCycles M M.cycles L histories
       × Appends out.written out'.written (summary number M L) × (out'.faults ≡ out.faults)
   Summarizes bus bus' out out' (Err (Disturbed cycle slot set active)) = SummarizesToStop (stop_value cycle slot set active) bus bus' out out'
   Summarizes bus bus' out out' (Err WriteFault) =
-      (L : Log) × (histories : Histories) × Ran may M bus bus' L × RanCycles M M.cycles L histories
+      (L : Log) × (histories : Histories) × HasCarried may M bus bus' L × HasRunCycles M M.cycles L histories
       × AppendsPart out.written out'.written (summary number M L) × Rose out.faults out'.faults
   Summarizes bus bus' out out' (Err NoMemory) =
-      (L : Log) × (histories : Histories) × (n : ℕ) × Ran may M bus bus' L × RanPart M n L histories × (out' ≡ out)
+      (L : Log) × (histories : Histories) × (n : ℕ) × HasCarried may M bus bus' L × HasRunPart M n L histories × (out' ≡ out)
 
   -- what goes on with the run until n cycles ran does, by its answer
   abbrev pub TalliesTo : BusValue → SinkView → ℕ → WorldValue → BusValue → SinkView → Tally → Result (Unit {0}) RunStop → Type 0

@@ -9,7 +9,7 @@ ghost use Rattle.guards_world.specs.Worlds.{HaltValue};
 ghost use Rattle.icn_world.specs.Halts.{halt_value, with_halt_value};
 ghost use Rattle.output_gate.specs.Exchanging.{MayExchange};
 ghost use Rattle.output_gate.specs.Gates.{GateValue};
-ghost use Rattle.acted_runs.specs.Driving.{Drives, Exchanged, IsDriven, exchange_halt, first_gate, with_part};
+ghost use Rattle.run_laws.specs.Driving.{Drives, Exchanged, IsDriven, exchange_halt, first_gate, with_part};
 ghost use Rattle.world_run.specs.Running.{bus_value};
 
 use ctx_lock::Gate;
@@ -28,7 +28,7 @@ use std::thread::Threads;
 pub fn first_gate(mission: &Mission) -> Option<OutputGate>
     ensures { result ≡ option_map first_gate mission.now.actuator }
 {
-    mission.know_sizes();
+    mission.prove_sizes();
     let outputs = mission.outputs().len() as u8;
     match mission.actuator() {
         Some(actuator) => Some(OutputGate::new(outputs, actuator.steps, actuator.start)),

@@ -5,14 +5,14 @@ ghost use Rattle.guards_model.specs.Missions.{ActuatorValue, MissionValue, IsMis
 ghost use Rattle.guards_world.specs.Worlds.{first_world};
 ghost use Rattle.guards_world.specs.WorldCycle.{BusValue};
 ghost use Rattle.output_gate.specs.Gates.{GateValue};
-ghost use Rattle.acted_runs.specs.Driving.{first_gate};
-ghost use Rattle.ideal_run.specs.Report.{last};
+ghost use Rattle.run_laws.specs.Driving.{first_gate};
+ghost use Rattle.guards_runs.specs.IdealReport.{last};
 ghost use Rattle.ideal_run.specs.Writes.{sink_view};
 ghost use Rattle.world_run.specs.Running.{bus_value, Puts, cycle_text};
-ghost use Rattle.world_run.specs.Keeping.{Gives, Keeps, IsKept, KeepsTo, RunsLast, TellsKept, kept_text};
+ghost use Rattle.world_run.specs.Keeping.{HandsOver, Keeps, IsKept, KeepsTo, RunsLast, TellsKept, kept_text};
 
 use crate::driving::{first_gate, pass};
-use crate::running::told;
+use crate::running::run_result;
 use crate::stop::RunStop;
 use crate::writing::{cycle_text, end_text, head_text, stop_text};
 use ctx_lock::Gate;
@@ -31,7 +31,7 @@ use std::thread::Threads;
 
 /// Hands a piece to the sink.
 fn give<K: Sink>(out: &mut K, piece: &[u8]) -> Result<(), Failed>
-    ensures { Gives (sink_view (K.written out.old) (K.faults out.old))
+    ensures { HandsOver (sink_view (K.written out.old) (K.faults out.old))
         (sink_view (K.written out.new) (K.faults out.new)) piece.now result }
 {
     write_all(out, piece)
@@ -39,7 +39,7 @@ fn give<K: Sink>(out: &mut K, piece: &[u8]) -> Result<(), Failed>
 
 /// Hands over the parts that were kept, one after the other.
 fn give_parts<K: Sink>(out: &mut K, log: &FlightLog) -> Result<(), Failed>
-    ensures { Gives (sink_view (K.written out.old) (K.faults out.old))
+    ensures { HandsOver (sink_view (K.written out.old) (K.faults out.old))
         (sink_view (K.written out.new) (K.faults out.new)) (flat_map (λ text. text) log.now.parts) result }
 {
     for place in 0..log.len() {
@@ -50,7 +50,7 @@ fn give_parts<K: Sink>(out: &mut K, log: &FlightLog) -> Result<(), Failed>
 
 /// Hands over a head line, the parts that were kept, and a last line.
 fn give_kept<K: Sink>(out: &mut K, head: &Text, log: &FlightLog, line: &Text) -> Result<(), Failed>
-    ensures { Gives (sink_view (K.written out.old) (K.faults out.old))
+    ensures { HandsOver (sink_view (K.written out.old) (K.faults out.old))
         (sink_view (K.written out.new) (K.faults out.new)) (kept_text head.now log.now.parts ++ line.now) result }
 {
     give(out, head.as_str().as_bytes())?;
@@ -227,7 +227,7 @@ pub fn run_last<B: Bus, G: Gate, C: Calls + Sync, R: Threads + Wait + Sync, K: S
         trace,
         &mut log,
     ) {
-        Ok(()) => told(put_kept(alloc, world.mission(), &head, &log, out)),
+        Ok(()) => run_result(put_kept(alloc, world.mission(), &head, &log, out)),
         Err(halt) => Err(tell_kept(alloc, halt, &head, &log, out)),
     }
 }

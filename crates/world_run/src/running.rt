@@ -4,7 +4,7 @@ ghost use Rattle.guards_model.specs.Missions.{MissionValue, IsMission, bus_rules
 ghost use Rattle.guards_world.specs.Worlds.{first_world};
 ghost use Rattle.guards_world.specs.WorldCycle.{BusValue};
 ghost use Rattle.ideal_run.specs.Writes.{SinkView, sink_view};
-ghost use Rattle.world_run.specs.Running.{bus_value, told_by, IsAt, Runs, GoesTo, TellsHalt};
+ghost use Rattle.world_run.specs.Running.{bus_value, run_told_by, IsAt, Runs, GoesTo, TellsHalt};
 
 use crate::driving::{first_gate, pass};
 use crate::stop::RunStop;
@@ -21,8 +21,8 @@ use std::sync::Wait;
 use std::thread::Threads;
 
 /// A text that was not written ends a run.
-pub fn told(written: Result<(), WriteStop>) -> Result<(), RunStop>
-    ensures { result ≡ told_by written }
+pub fn run_result(written: Result<(), WriteStop>) -> Result<(), RunStop>
+    ensures { result ≡ run_told_by written }
 {
     match written {
         Ok(()) => Ok(()),
@@ -32,7 +32,7 @@ pub fn told(written: Result<(), WriteStop>) -> Result<(), RunStop>
 }
 
 /// Tells a halt.
-pub fn end<K: Sink>(alloc: Global, halt: Halt, out: &mut K) -> RunStop
+pub fn put_halt<K: Sink>(alloc: Global, halt: Halt, out: &mut K) -> RunStop
     ensures { TellsHalt halt (sink_view (K.written out.old) (K.faults out.old)) (sink_view (K.written out.new) (K.faults out.new)) result }
 {
     match halt {
@@ -47,7 +47,7 @@ pub fn end<K: Sink>(alloc: Global, halt: Halt, out: &mut K) -> RunStop
 }
 
 /// Passes one more cycle with its exchange, and writes its part.
-fn step<B: Bus, G: Gate, C: Calls + Sync, R: Threads + Wait + Sync, K: Sink, Q: Limit>(
+fn run_cycle<B: Bus, G: Gate, C: Calls + Sync, R: Threads + Wait + Sync, K: Sink, Q: Limit>(
     rt: &R,
     alloc: Global,
     world: &mut World,
@@ -68,8 +68,8 @@ fn step<B: Bus, G: Gate, C: Calls + Sync, R: Threads + Wait + Sync, K: Sink, Q: 
         (sink_view (K.written out.new) (K.faults out.new)) result }
 {
     match pass(rt, alloc, world, bus, gate, natives, limit, actuator) {
-        Ok(part) => told(put_cycle(alloc, world.mission(), &part, actuator, trace, out)),
-        Err(halt) => Err(end(alloc, halt, out)),
+        Ok(part) => run_result(put_cycle(alloc, world.mission(), &part, actuator, trace, out)),
+        Err(halt) => Err(put_halt(alloc, halt, out)),
     }
 }
 
@@ -96,7 +96,7 @@ fn run_cycles<B: Bus, G: Gate, C: Calls + Sync, R: Threads + Wait + Sync, K: Sin
 {
     for cycle in 0..world.mission().cycles() {
         let _cycle = cycle;
-        step(
+        run_cycle(
             rt, alloc, world, bus, gate, natives, limit, actuator, out, trace,
         )?;
     }
@@ -125,7 +125,7 @@ pub fn run<B: Bus, G: Gate, C: Calls + Sync, R: Threads + Wait + Sync, K: Sink, 
         (sink_view (K.written out.new) (K.faults out.new)) result }
 {
     let mut actuator = first_gate(world.mission());
-    told(put_head(alloc, world.mission(), out))?;
+    run_result(put_head(alloc, world.mission(), out))?;
     run_cycles(
         rt,
         alloc,
@@ -138,5 +138,5 @@ pub fn run<B: Bus, G: Gate, C: Calls + Sync, R: Threads + Wait + Sync, K: Sink, 
         out,
         trace,
     )?;
-    told(put_end(alloc, world.mission(), out))
+    run_result(put_end(alloc, world.mission(), out))
 }

@@ -9,7 +9,7 @@ ghost use Rattle.ideal_run.specs.Writes.{SinkView, sink_view};
 ghost use Rattle.world_run.specs.Running.{bus_value, Puts};
 ghost use Rattle.world_run.specs.Tallying.{shown_votes, summary_of, IsTallied, Summarizes, TalliesTo};
 
-use crate::running::{end, told};
+use crate::running::{put_halt, run_result};
 use crate::stop::RunStop;
 use crate::tally::Tally;
 use crate::writing::put;
@@ -51,7 +51,7 @@ fn tally_cycle<B: Bus, G: Gate, C: Calls + Sync, R: Threads + Wait + Sync, K: Si
             tally.note(&part);
             Ok(())
         }
-        Err(halt) => Err(end(alloc, halt, out)),
+        Err(halt) => Err(put_halt(alloc, halt, out)),
     }
 }
 
@@ -77,7 +77,7 @@ fn tally_cycles<B: Bus, G: Gate, C: Calls + Sync, R: Threads + Wait + Sync, K: S
         (sink_view (K.written out.old) (K.faults out.old)) world.old.mission.cycles world.new
         (bus_value (B.log bus.new) (B.script bus.new)) (sink_view (K.written out.new) (K.faults out.new)) tally.new result }
 {
-    world.mission().is_mission();
+    world.mission().prove_mission();
     for cycle in 0..world.mission().cycles() {
         let _cycle = cycle;
         tally_cycle(rt, alloc, world, bus, gate, natives, out, tally)?;
@@ -154,8 +154,8 @@ pub fn summarize<B: Bus, G: Gate, C: Calls + Sync, R: Threads + Wait + Sync, K: 
     let mut tally = Tally::empty();
     tally_cycles(rt, alloc, world, bus, gate, natives, out, &mut tally)?;
     let mission = world.mission();
-    mission.know_sizes();
+    mission.prove_sizes();
     let outputs = mission.outputs().len() as u8;
     let frames = world.carried();
-    told(put_summary(alloc, number, outputs, frames, &tally, out))
+    run_result(put_summary(alloc, number, outputs, frames, &tally, out))
 }

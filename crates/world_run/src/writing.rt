@@ -1,9 +1,9 @@
 //! Writes the text of a run, part by part.
 ghost use Rattle.std.specs.Prelude.{◌≡◌, ◌≤◌, ◌++◌, IfOk, OnOk, Some, length};
 ghost use Rattle.output_gate.specs.Gates.{GateValue};
-ghost use Rattle.ideal_run.specs.Report.{head, last};
+ghost use Rattle.guards_runs.specs.IdealReport.{head, last};
 ghost use Rattle.ideal_run.specs.Writes.{sink_view};
-ghost use Rattle.world_run.specs.Running.{Puts, Refuses, TellsStop, bare_text, cycle_text, stop_text, stop_value, words_line};
+ghost use Rattle.world_run.specs.Running.{Puts, WritesLine, TellsStop, bare_text, cycle_text, stop_text, stop_value, words_line};
 
 use crate::stop::RunStop;
 use guards_base::{ChanSet, CycleRecord, Text};
@@ -26,14 +26,14 @@ pub fn put<K: Sink>(out: &mut K, part: &str) -> Result<(), WriteStop>
 }
 
 /// Writes a line that ends a call, as far as the sink takes it.
-pub fn refuse<K: Sink>(out: &mut K, line: &str)
-    ensures { Refuses (sink_view (K.written out.old) (K.faults out.old))
+pub fn put_line<K: Sink>(out: &mut K, line: &str)
+    ensures { WritesLine (sink_view (K.written out.old) (K.faults out.old))
         (sink_view (K.written out.new) (K.faults out.new)) line.now }
 {
     let _ = write_all(out, line.as_bytes());
 }
 
-#[tactic(auto, unfolding(ideal_run::specs::Report::head))]
+#[tactic(auto, unfolding(guards_runs::specs::IdealReport::head))]
 pub(crate) fn head_text(alloc: Global, mission: &Mission) -> Result<Text, AllocError>
     ensures { IfOk result (λ text. text ≡ head mission.now) }
 {
@@ -64,7 +64,7 @@ fn bare_text(
 ) -> Result<Text, AllocError>
     ensures { IfOk result (λ text. text ≡ bare_text trace mission.now part.now) }
 {
-    mission.know_sizes();
+    mission.prove_sizes();
     let channels = mission.rules().channels;
     let width = mission.width();
     let outputs = mission.outputs().len() as u8;
@@ -101,7 +101,7 @@ pub(crate) fn cycle_text(
     requires { (g : GateValue) → actuator.now ≡ Some g → length g.words ≡ length mission.now.outputs }
     ensures { IfOk result (λ text. text ≡ cycle_text trace mission.now actuator.now part.now) }
 {
-    mission.know_sizes();
+    mission.prove_sizes();
     let outputs = mission.outputs().len() as u8;
     let mut text = bare_text(alloc, mission, part, trace)?;
     push_words(alloc, &mut text, actuator, outputs)?;
@@ -127,7 +127,7 @@ pub fn put_cycle<K: Sink>(
     put(out, text.as_str())
 }
 
-#[tactic(auto, unfolding(ideal_run::specs::Report::last))]
+#[tactic(auto, unfolding(guards_runs::specs::IdealReport::last))]
 pub(crate) fn end_text(alloc: Global, mission: &Mission) -> Result<Text, AllocError>
     ensures { IfOk result (λ text. text ≡ last mission.now) }
 {
@@ -177,7 +177,7 @@ pub fn tell_stop<K: Sink>(
     let Ok(text) = stop_text(alloc, cycle, slot, set, active) else {
         return RunStop::NoMemory;
     };
-    refuse(out, text.as_str());
+    put_line(out, text.as_str());
     RunStop::Disturbed {
         cycle,
         slot,

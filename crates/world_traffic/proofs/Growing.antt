@@ -1,16 +1,15 @@
--- Sends one after the other, and what they come to.
+-- SendsSlot one after the other, and what they come to.
 use Rattle.std.proofs.Common.{◌≡◌, ℕ, zero, suc, ◌+◌, List, [], ◌∷◌, ◌++◌, length, map, take, Some, refl, sym, ap, subst, ◌∙◌, arith}
 use Rattle.std.specs.List.{AllZip, AllByRecursion}
 use Rattle.std.proofs.lemmas.List.{append-nil}
 use Rattle.guards_model.specs.declared.Slot.{Slot}
 use Rattle.guards_model.specs.BusRules.{RuleValue}
 use Rattle.guards_model.specs.Frames.{FrameValue, spelling}
-use Rattle.guards_model.specs.Network.{EntryValue, Log}
+use Rattle.guards_model.specs.Network.{EntryValue, Log, TrafficValue}
 use Rattle.guards_model.specs.Channels.{without}
-use Rattle.guards_runs.specs.Due.{Carry}
-use Rattle.slot_traffic.specs.Pieces.{TrafficValue}
+use Rattle.guards_runs.specs.Due.{Carry, IsCarryOf}
 use Rattle.slot_traffic.specs.Sending as pieces
-use Rattle.world_traffic.specs.SlotSends.{SendValue, IsEntryOf, Sends, SendsSome, sends_by}
+use Rattle.guards_world.specs.SlotSends.{SendValue, IsEntryOf, SendsSlot, SendsFirstOfSlot, sends_by}
 
 -- ---- a frame
 
@@ -21,14 +20,14 @@ abbrev send_to_one : ℕ → Slot → FrameValue → ℕ → SendValue
 send_to_one c slot frame to = record { carry = carry_to c slot frame to; bytes = spelling frame }
 
 as_sends : (c : ℕ) (slot : Slot) (frame : FrameValue) (xs : List ℕ) (now : Log) →
-    AllZip (pieces.IsCarryOf (spelling frame)) (map (carry_to c slot frame) xs) now → AllZip IsEntryOf (map (send_to_one c slot frame) xs) now
+    AllZip (IsCarryOf (spelling frame)) (map (carry_to c slot frame) xs) now → AllZip IsEntryOf (map (send_to_one c slot frame) xs) now
 as_sends c slot frame [] [] z = tt
 as_sends c slot frame [] (y ∷ ys) z = absurd z
 as_sends c slot frame (x ∷ xs) [] z = absurd z
 as_sends c slot frame (x ∷ xs) (y ∷ ys) z = (z.0, as_sends c slot frame xs ys z.1)
 
 as_few_sends : (c : ℕ) (slot : Slot) (frame : FrameValue) (few : ℕ) (xs : List ℕ) (now : Log) →
-    AllZip (pieces.IsCarryOf (spelling frame)) (take few (map (carry_to c slot frame) xs)) now → AllZip IsEntryOf (take few (map (send_to_one c slot frame) xs)) now
+    AllZip (IsCarryOf (spelling frame)) (take few (map (carry_to c slot frame) xs)) now → AllZip IsEntryOf (take few (map (send_to_one c slot frame) xs)) now
 as_few_sends c slot frame zero xs [] z = tt
 as_few_sends c slot frame zero xs (y ∷ ys) z = absurd z
 as_few_sends c slot frame (suc few) [] [] z = tt
@@ -37,8 +36,8 @@ as_few_sends c slot frame (suc few) (x ∷ xs) [] z = absurd z
 as_few_sends c slot frame (suc few) (x ∷ xs) (y ∷ ys) z = (z.0, as_few_sends c slot frame few xs ys z.1)
 
 pub frame_sends : (may : List RuleValue → EntryValue → Type 0) (script : List RuleValue) (old new : Log) (frame : FrameValue) (receivers : List ℕ) (before after : TrafficValue) →
-    pieces.Sends may script old new (spelling frame) (pieces.carries_from before.cycle before.slot frame.sender receivers) before after →
-    Sends may script old new (sends_by before.cycle before.slot receivers (Some frame)) before after
+    pieces.SendsFrame may script old new (spelling frame) (pieces.carries_from before.cycle before.slot frame.sender receivers) before after →
+    SendsSlot may script old new (sends_by before.cycle before.slot receivers (Some frame)) before after
 frame_sends may script old new frame receivers before after s = record {
   now = s.now;
   sent = record {
@@ -50,8 +49,8 @@ frame_sends may script old new frame receivers before after s = record {
 }
 
 pub frame_sends_some : (may : List RuleValue → EntryValue → Type 0) (script : List RuleValue) (old new : Log) (frame : FrameValue) (receivers : List ℕ) (before after : TrafficValue) →
-    pieces.SendsSome may script old new (spelling frame) (pieces.carries_from before.cycle before.slot frame.sender receivers) before after →
-    SendsSome may script old new (sends_by before.cycle before.slot receivers (Some frame)) before after
+    pieces.SendsFirstOfFrame may script old new (spelling frame) (pieces.carries_from before.cycle before.slot frame.sender receivers) before after →
+    SendsFirstOfSlot may script old new (sends_by before.cycle before.slot receivers (Some frame)) before after
 frame_sends_some may script old new frame receivers before after s = record {
   few = length s.now;
   sends_few = record {
@@ -71,14 +70,14 @@ nothing_traffic : (t : TrafficValue) → t ≡ record { cycle = t.cycle; slot = 
 nothing_traffic t = ap (λ (es : Log). record { cycle = t.cycle; slot = t.slot; entries = es }) (sym (append-nil t.entries))
 
 -- nothing is sent
-pub sends_none : (may : List RuleValue → EntryValue → Type 0) (script : List RuleValue) (log : Log) (t : TrafficValue) → Sends may script log log [] t t
+pub sends_none : (may : List RuleValue → EntryValue → Type 0) (script : List RuleValue) (log : Log) (t : TrafficValue) → SendsSlot may script log log [] t t
 sends_none may script log t = record {
   now = [];
   sent = record { grew = sym (append-nil log); each = tt; allowed = tt };
   traffic = nothing_traffic t;
 }
 
-pub sends_none_of : (may : List RuleValue → EntryValue → Type 0) (script : List RuleValue) (log : Log) (sends : List SendValue) (t : TrafficValue) → SendsSome may script log log sends t t
+pub sends_none_of : (may : List RuleValue → EntryValue → Type 0) (script : List RuleValue) (log : Log) (sends : List SendValue) (t : TrafficValue) → SendsFirstOfSlot may script log log sends t t
 sends_none_of may script log sends t = record { few = 0; sends_few = sends_none may script log t }
 
 zip_append : {A B : Type 0} (R : A → B → Type 0) (xs xs' : List A) (ys ys' : List B) → AllZip R xs ys → AllZip R xs' ys' → AllZip R (xs ++ xs') (ys ++ ys')
@@ -96,8 +95,8 @@ append_three [] ys zs = refl
 append_three (x ∷ xs) ys zs = ap (λ l. x ∷ l) (append_three xs ys zs)
 
 pub sends_more : (may : List RuleValue → EntryValue → Type 0) (script later : List RuleValue) (old mid new : Log) (first rest : List SendValue) (before between after : TrafficValue) →
-    later ≡ script → Sends may script old mid first before between → Sends may later mid new rest between after →
-    Sends may script old new (first ++ rest) before after
+    later ≡ script → SendsSlot may script old mid first before between → SendsSlot may later mid new rest between after →
+    SendsSlot may script old new (first ++ rest) before after
 sends_more may script later old mid new first rest before between after same s t = record {
   now = s.now ++ t.now;
   sent = record {
@@ -129,20 +128,20 @@ past few (x ∷ xs) ys =
 
 -- memory ran out in the first part
 pub some_first : (may : List RuleValue → EntryValue → Type 0) (script : List RuleValue) (old new : Log) (first rest : List SendValue) (before after : TrafficValue) →
-    SendsSome may script old new first before after → SendsSome may script old new (first ++ rest) before after
+    SendsFirstOfSlot may script old new first before after → SendsFirstOfSlot may script old new (first ++ rest) before after
 some_first may script old new first rest before after s = record {
   few = length (take s.few first);
-  sends_few = subst (λ (l : List SendValue). Sends may script old new l before after) (front s.few first rest) s.sends_few;
+  sends_few = subst (λ (l : List SendValue). SendsSlot may script old new l before after) (front s.few first rest) s.sends_few;
 }
 
 -- or in the second one
 pub some_later : (may : List RuleValue → EntryValue → Type 0) (script later : List RuleValue) (old mid new : Log) (first rest : List SendValue) (before between after : TrafficValue) →
-    later ≡ script → Sends may script old mid first before between → SendsSome may later mid new rest between after →
-    SendsSome may script old new (first ++ rest) before after
+    later ≡ script → SendsSlot may script old mid first before between → SendsFirstOfSlot may later mid new rest between after →
+    SendsFirstOfSlot may script old new (first ++ rest) before after
 some_later may script later old mid new first rest before between after same s t = record {
   few = length first + t.few;
   sends_few =
-      subst (λ (l : List SendValue). Sends may script old new l before after) (past t.few first rest)
+      subst (λ (l : List SendValue). SendsSlot may script old new l before after) (past t.few first rest)
       (sends_more may script later old mid new first (take t.few rest) before between after same s t.sends_few);
 }
 
@@ -150,7 +149,7 @@ some_later may script later old mid new first rest before between after same s t
 
 -- what holds of a node and a slot holds when something was sent in it
 pub on_same : (may : List RuleValue → EntryValue → Type 0) (script : List RuleValue) (old new : Log) (sends : List SendValue) (before after : TrafficValue) (P : ℕ → Slot → Type 0) →
-    Sends may script old new sends before after → P before.cycle before.slot → P after.cycle after.slot
+    SendsSlot may script old new sends before after → P before.cycle before.slot → P after.cycle after.slot
 on_same may script old new sends before after P s held =
     subst (λ (c : ℕ). P c after.slot) (sym (ap (λ (t : TrafficValue). t.cycle) s.traffic))
     (subst (λ (k : Slot). P before.cycle k) (sym (ap (λ (t : TrafficValue). t.slot) s.traffic)) held)
@@ -161,15 +160,15 @@ same_rest rest before between now h = ap (λ (t : TrafficValue). rest t.cycle t.
 
 -- the same as above, where the rest is what is sent in the slot
 pub sent_on : (may : List RuleValue → EntryValue → Type 0) (script later : List RuleValue) (old mid new : Log) (first : List SendValue) (rest : ℕ → Slot → List SendValue) (before between after : TrafficValue) →
-    later ≡ script → Sends may script old mid first before between → Sends may later mid new (rest between.cycle between.slot) between after →
-    Sends may script old new (first ++ rest before.cycle before.slot) before after
+    later ≡ script → SendsSlot may script old mid first before between → SendsSlot may later mid new (rest between.cycle between.slot) between after →
+    SendsSlot may script old new (first ++ rest before.cycle before.slot) before after
 sent_on may script later old mid new first rest before between after same s t =
     sends_more may script later old mid new first (rest before.cycle before.slot) before between after same s
-    (subst (λ (l : List SendValue). Sends may later mid new l between after) (same_rest rest before between s.now s.traffic) t)
+    (subst (λ (l : List SendValue). SendsSlot may later mid new l between after) (same_rest rest before between s.now s.traffic) t)
 
 pub some_on : (may : List RuleValue → EntryValue → Type 0) (script later : List RuleValue) (old mid new : Log) (first : List SendValue) (rest : ℕ → Slot → List SendValue) (before between after : TrafficValue) →
-    later ≡ script → Sends may script old mid first before between → SendsSome may later mid new (rest between.cycle between.slot) between after →
-    SendsSome may script old new (first ++ rest before.cycle before.slot) before after
+    later ≡ script → SendsSlot may script old mid first before between → SendsFirstOfSlot may later mid new (rest between.cycle between.slot) between after →
+    SendsFirstOfSlot may script old new (first ++ rest before.cycle before.slot) before after
 some_on may script later old mid new first rest before between after same s t =
     some_later may script later old mid new first (rest before.cycle before.slot) before between after same s
-    (subst (λ (l : List SendValue). SendsSome may later mid new l between after) (same_rest rest before between s.now s.traffic) t)
+    (subst (λ (l : List SendValue). SendsFirstOfSlot may later mid new l between after) (same_rest rest before between s.now s.traffic) t)

@@ -15,7 +15,7 @@ use Rattle.guards_nodes.specs.NodeStates.{NodeValue, StateValue, running, fallen
 use Rattle.guards_nodes.specs.NodeSteps.{Received}
 use Rattle.guards_nodes.specs.NodeFrames.{framed, sweep_to, final_to}
 use Rattle.guards_world.specs.OwedFrames.{body_of}
-use Rattle.world_traffic.specs.SlotSends.{SendValue, frame_by, send_by, send_to, sends_of, sends_by, has_targets}
+use Rattle.guards_world.specs.SlotSends.{SendValue, frame_by, send_by, send_to, sends_of, sends_by, has_targets}
 
 -- the set of one channel
 pub single_set : (t : ℕ) → t < 7 → union [] (t ∷ []) ≡ t ∷ []

@@ -1,6 +1,6 @@
 //! What arrived in a slot, as the nodes take it.
 ghost use Rattle.std.specs.Prelude.{◌≡◌};
-ghost use Rattle.world_nodes.specs.NodeLists.{AreInRange};
+ghost use Rattle.guards_world.specs.NodeLists.{AreInRange};
 ghost use Rattle.world_traffic.specs.Reading.{got_of};
 
 use guards_base::Chan;

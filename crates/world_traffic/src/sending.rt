@@ -6,8 +6,8 @@ ghost use Rattle.guards_nodes.specs.NodeSteps.{Received, StandsFor};
 ghost use Rattle.guards_nodes.specs.NodeFrames.{framed};
 ghost use Rattle.guards_world.specs.OwedFrames.{body_of};
 ghost use Rattle.slot_traffic.specs.Receiving.{receiver_numbers};
-ghost use Rattle.world_nodes.specs.NodeLists.{AllReceived, StandsAt};
-ghost use Rattle.world_traffic.specs.SlotSends.{MaySend, Sends, SendsSome, all_sends, has_targets, sends_by, sends_of};
+ghost use Rattle.guards_world.specs.NodeLists.{AllReceived, StandsForReceived};
+ghost use Rattle.guards_world.specs.SlotSends.{MaySend, SendsSlot, SendsFirstOfSlot, all_sends, has_targets, sends_by, sends_of};
 
 use channel_node::Node;
 use guards_base::{Chan, ChanSet, Slot};
@@ -70,9 +70,9 @@ fn send_frame<B: Bus>(
 ) -> Result<(), AllocError>
     requires { IfSome frame (λ frame. IsTrue (in_range frame)) }
     ensures script { B.script bus.new ≡ B.script bus.old }
-    ensures sent { OnOk result (Sends B.may (B.script bus.old) (B.log bus.old) (B.log bus.new)
+    ensures sent { OnOk result (SendsSlot B.may (B.script bus.old) (B.log bus.old) (B.log bus.new)
         (sends_by traffic.old.cycle traffic.old.slot (receiver_numbers to) frame) traffic.old traffic.new) }
-    ensures some { OnErr result (SendsSome B.may (B.script bus.old) (B.log bus.old) (B.log bus.new)
+    ensures some { OnErr result (SendsFirstOfSlot B.may (B.script bus.old) (B.log bus.old) (B.log bus.new)
         (sends_by traffic.old.cycle traffic.old.slot (receiver_numbers to) frame) traffic.old traffic.new) }
 {
     match frame {
@@ -94,15 +94,15 @@ fn send_owed<B: Bus>(
     target: Chan,
     to: Receivers,
 ) -> Result<(), AllocError>
-    requires { (received : AllReceived) × StandsAt received node.now × MaySend mission.now traffic.old.cycle traffic.old.slot received node.now }
+    requires { (received : AllReceived) × StandsForReceived received node.now × MaySend mission.now traffic.old.cycle traffic.old.slot received node.now }
     ensures script { B.script bus.new ≡ B.script bus.old }
-    ensures sent { (received : AllReceived) → StandsAt received node.now →
-        OnOk result (Sends B.may (B.script bus.old) (B.log bus.old) (B.log bus.new)
+    ensures sent { (received : AllReceived) → StandsForReceived received node.now →
+        OnOk result (SendsSlot B.may (B.script bus.old) (B.log bus.old) (B.log bus.new)
         (sends_by traffic.old.cycle traffic.old.slot (receiver_numbers to)
         (framed node.now traffic.old.cycle (body_of mission.now (received node.now.channel) traffic.old.slot target node.now.state)))
         traffic.old traffic.new) }
-    ensures some { (received : AllReceived) → StandsAt received node.now →
-        OnErr result (SendsSome B.may (B.script bus.old) (B.log bus.old) (B.log bus.new)
+    ensures some { (received : AllReceived) → StandsForReceived received node.now →
+        OnErr result (SendsFirstOfSlot B.may (B.script bus.old) (B.log bus.old) (B.log bus.new)
         (sends_by traffic.old.cycle traffic.old.slot (receiver_numbers to)
         (framed node.now traffic.old.cycle (body_of mission.now (received node.now.channel) traffic.old.slot target node.now.state)))
         traffic.old traffic.new) }
@@ -122,7 +122,7 @@ fn send_owed<B: Bus>(
 }
 
 // The set of one channel.
-fn single(c: Chan) -> ChanSet
+fn set_of_one(c: Chan) -> ChanSet
     ensures { result ≡ c ∷ [] }
 {
     let _ = c.index();
@@ -139,14 +139,14 @@ fn send_targets<B: Bus>(
     targets: ChanSet,
     channels: &[Chan],
 ) -> Result<(), AllocError>
-    requires { (received : AllReceived) × StandsAt received node.now × MaySend mission.now traffic.old.cycle traffic.old.slot received node.now }
+    requires { (received : AllReceived) × StandsForReceived received node.now × MaySend mission.now traffic.old.cycle traffic.old.slot received node.now }
     ensures script { B.script bus.new ≡ B.script bus.old }
-    ensures sent { (received : AllReceived) → StandsAt received node.now →
-        OnOk result (Sends B.may (B.script bus.old) (B.log bus.old) (B.log bus.new)
+    ensures sent { (received : AllReceived) → StandsForReceived received node.now →
+        OnOk result (SendsSlot B.may (B.script bus.old) (B.log bus.old) (B.log bus.new)
         (sends_of mission.now traffic.old.cycle traffic.old.slot (filter (has targets) channels.now) (received node.now.channel) node.now)
         traffic.old traffic.new) }
-    ensures some { (received : AllReceived) → StandsAt received node.now →
-        OnErr result (SendsSome B.may (B.script bus.old) (B.log bus.old) (B.log bus.new)
+    ensures some { (received : AllReceived) → StandsForReceived received node.now →
+        OnErr result (SendsFirstOfSlot B.may (B.script bus.old) (B.log bus.old) (B.log bus.new)
         (sends_of mission.now traffic.old.cycle traffic.old.slot (filter (has targets) channels.now) (received node.now.channel) node.now)
         traffic.old traffic.new) }
 {
@@ -154,7 +154,7 @@ fn send_targets<B: Bus>(
         return Ok(());
     };
     if targets.has(*target) {
-        let to = Receivers::Channels(single(*target));
+        let to = Receivers::Channels(set_of_one(*target));
         match send_owed(alloc, traffic, bus, node, mission, *target, to) {
             Ok(()) => match send_targets(alloc, traffic, bus, node, mission, targets, rest) {
                 Ok(()) => Ok(()),
@@ -179,14 +179,14 @@ fn send_node<B: Bus>(
     mission: &Mission,
     to: Receivers,
 ) -> Result<(), AllocError>
-    requires { (received : AllReceived) × StandsAt received node.now × MaySend mission.now traffic.old.cycle traffic.old.slot received node.now }
+    requires { (received : AllReceived) × StandsForReceived received node.now × MaySend mission.now traffic.old.cycle traffic.old.slot received node.now }
     ensures script { B.script bus.new ≡ B.script bus.old }
-    ensures sent { (received : AllReceived) → StandsAt received node.now →
-        OnOk result (Sends B.may (B.script bus.old) (B.log bus.old) (B.log bus.new)
+    ensures sent { (received : AllReceived) → StandsForReceived received node.now →
+        OnOk result (SendsSlot B.may (B.script bus.old) (B.log bus.old) (B.log bus.new)
         (sends_of mission.now traffic.old.cycle traffic.old.slot (receiver_numbers to) (received node.now.channel) node.now)
         traffic.old traffic.new) }
-    ensures some { (received : AllReceived) → StandsAt received node.now →
-        OnErr result (SendsSome B.may (B.script bus.old) (B.log bus.old) (B.log bus.new)
+    ensures some { (received : AllReceived) → StandsForReceived received node.now →
+        OnErr result (SendsFirstOfSlot B.may (B.script bus.old) (B.log bus.old) (B.log bus.new)
         (sends_of mission.now traffic.old.cycle traffic.old.slot (receiver_numbers to) (received node.now.channel) node.now)
         traffic.old traffic.new) }
 {
@@ -227,13 +227,13 @@ fn send_each<B: Bus>(
     mission: &Mission,
     to: &Receivers,
 ) -> Result<(), AllocError>
-    requires { (received : AllReceived) × All (StandsAt received) nodes.now × All (MaySend mission.now traffic.old.cycle traffic.old.slot received) nodes.now }
+    requires { (received : AllReceived) × All (StandsForReceived received) nodes.now × All (MaySend mission.now traffic.old.cycle traffic.old.slot received) nodes.now }
     ensures script { B.script bus.new ≡ B.script bus.old }
-    ensures sent { (received : AllReceived) → All (StandsAt received) nodes.now →
-        OnOk result (Sends B.may (B.script bus.old) (B.log bus.old) (B.log bus.new)
+    ensures sent { (received : AllReceived) → All (StandsForReceived received) nodes.now →
+        OnOk result (SendsSlot B.may (B.script bus.old) (B.log bus.old) (B.log bus.new)
         (all_sends mission.now traffic.old.cycle traffic.old.slot (receiver_numbers to.now) received nodes.now) traffic.old traffic.new) }
-    ensures some { (received : AllReceived) → All (StandsAt received) nodes.now →
-        OnErr result (SendsSome B.may (B.script bus.old) (B.log bus.old) (B.log bus.new)
+    ensures some { (received : AllReceived) → All (StandsForReceived received) nodes.now →
+        OnErr result (SendsFirstOfSlot B.may (B.script bus.old) (B.log bus.old) (B.log bus.new)
         (all_sends mission.now traffic.old.cycle traffic.old.slot (receiver_numbers to.now) received nodes.now) traffic.old traffic.new) }
 {
     let Some((node, rest)) = nodes.split_first() else {
@@ -259,13 +259,13 @@ pub fn send_slot<B: Bus>(
     mission: &Mission,
     to: Receivers,
 ) -> Result<(), AllocError>
-    requires { (received : AllReceived) × All (StandsAt received) nodes.now × All (MaySend mission.now traffic.old.cycle traffic.old.slot received) nodes.now }
+    requires { (received : AllReceived) × All (StandsForReceived received) nodes.now × All (MaySend mission.now traffic.old.cycle traffic.old.slot received) nodes.now }
     ensures script { B.script bus.new ≡ B.script bus.old }
-    ensures sent { (received : AllReceived) → All (StandsAt received) nodes.now →
-        OnOk result (Sends B.may (B.script bus.old) (B.log bus.old) (B.log bus.new)
+    ensures sent { (received : AllReceived) → All (StandsForReceived received) nodes.now →
+        OnOk result (SendsSlot B.may (B.script bus.old) (B.log bus.old) (B.log bus.new)
         (all_sends mission.now traffic.old.cycle traffic.old.slot (receiver_numbers to) received nodes.now) traffic.old traffic.new) }
-    ensures some { (received : AllReceived) → All (StandsAt received) nodes.now →
-        OnErr result (SendsSome B.may (B.script bus.old) (B.log bus.old) (B.log bus.new)
+    ensures some { (received : AllReceived) → All (StandsForReceived received) nodes.now →
+        OnErr result (SendsFirstOfSlot B.may (B.script bus.old) (B.log bus.old) (B.log bus.new)
         (all_sends mission.now traffic.old.cycle traffic.old.slot (receiver_numbers to) received nodes.now) traffic.old traffic.new) }
 {
     match send_each(alloc, traffic, bus, nodes.as_slice(), mission, &to) {

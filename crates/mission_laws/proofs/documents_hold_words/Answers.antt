@@ -1,4 +1,4 @@
-use Rattle.mission_laws.proofs.Reading.{document_holds}
+use Rattle.mission_laws.proofs.ReadWords.{document_holds}
 use Rattle.mission_laws.proofs.documents_hold_words.Goals as goal
 
 pub returns : goal.returns

@@ -1,5 +1,5 @@
 use Rattle.std.proofs.Common.{refl}
-use Rattle.guards_runs.proofs.OnLiterals.{run_on_literals}
+use Rattle.guards_runs.proofs.RunsOnLiterals.{run_on_literals}
 use Rattle.guards_runs.proofs.DueTest.{stopped_if}
 use Rattle.guards_model.specs.declared.Slot.TheVariants.{Vote}
 use Rattle.model_rows.specs.SevenStop as row

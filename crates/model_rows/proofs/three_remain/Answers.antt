@@ -1,5 +1,5 @@
 use Rattle.std.proofs.Common.{refl}
-use Rattle.guards_runs.proofs.OnLiterals.{run_on_literals}
+use Rattle.guards_runs.proofs.RunsOnLiterals.{run_on_literals}
 use Rattle.guards_runs.proofs.DueTest.{run_if}
 use Rattle.model_rows.specs.ThreeRemain as row
 use Rattle.model_rows.proofs.three_remain.Goals as goal

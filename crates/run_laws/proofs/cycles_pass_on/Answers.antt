@@ -1,4 +1,4 @@
-use Rattle.run_laws.proofs.Passing.{passes_on}
+use Rattle.run_laws.proofs.RunPassed.{passes_on}
 use Rattle.run_laws.proofs.cycles_pass_on.Goals as goal
 
 pub returns : goal.returns

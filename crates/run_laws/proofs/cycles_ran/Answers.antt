@@ -1,5 +1,5 @@
-use Rattle.run_laws.proofs.Standing.{stop_breaks_off}
-use Rattle.run_laws.proofs.Passing.{ran_cycles}
+use Rattle.run_laws.proofs.RunContinues.{stop_breaks_off}
+use Rattle.run_laws.proofs.RunPassed.{ran_cycles}
 use Rattle.run_laws.proofs.cycles_ran.Goals as goal
 
 pub returns-clause-whole : goal.returns-clause-whole

@@ -1,4 +1,4 @@
-use Rattle.run_laws.proofs.Passing.{outputs_leave}
+use Rattle.run_laws.proofs.RunPassed.{outputs_leave}
 use Rattle.run_laws.proofs.outputs_leave.Goals as goal
 
 pub returns : goal.returns

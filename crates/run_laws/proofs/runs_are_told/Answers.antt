@@ -1,4 +1,4 @@
-use Rattle.run_laws.proofs.Told.{whole_text, stopped_text}
+use Rattle.run_laws.proofs.RunTold.{whole_text, stopped_text}
 use Rattle.run_laws.proofs.runs_are_told.Goals as goal
 
 pub returns-clause-whole : goal.returns-clause-whole

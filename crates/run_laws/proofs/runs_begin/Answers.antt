@@ -1,4 +1,4 @@
-use Rattle.run_laws.proofs.Passing.{begins}
+use Rattle.run_laws.proofs.RunPassed.{begins}
 use Rattle.run_laws.proofs.runs_begin.Goals as goal
 
 pub returns : goal.returns

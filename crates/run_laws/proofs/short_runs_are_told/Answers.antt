@@ -1,4 +1,4 @@
-use Rattle.run_laws.proofs.Told.{short_whole, short_stopped}
+use Rattle.run_laws.proofs.RunTold.{short_whole, short_stopped}
 use Rattle.run_laws.proofs.short_runs_are_told.Goals as goal
 
 pub returns-clause-whole : goal.returns-clause-whole

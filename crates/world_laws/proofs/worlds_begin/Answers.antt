@@ -1,4 +1,4 @@
-use Rattle.world_laws.proofs.Standing.{first_stands, is_run}
+use Rattle.world_laws.proofs.LogStands.{first_stands, is_run}
 use Rattle.world_laws.proofs.worlds_begin.Goals as goal
 
 pub returns-clause-first : goal.returns-clause-first

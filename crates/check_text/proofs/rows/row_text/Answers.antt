@@ -2,14 +2,14 @@ use Rattle.std.proofs.Common.{◌≡◌, ◌<◌, ◌≤◌, ◌++◌, [], lengt
 use Rattle.std.specs.Prelude.{flat_map}
 use Rattle.std.proofs.lemmas.List.{take_all}
 use Rattle.std.proofs.lemmas.Option.{get_or_from_slice_get}
-use Rattle.task_table.specs.Tables.{row_at}
+use Rattle.task_table.specs.Tables.{tasks_in_row}
 use Rattle.check_text.specs.Check.{task_text, row_text}
 use Rattle.check_text.proofs.PlaceTexts.{element_more}
 use Rattle.check_text.proofs.rows.row_text.Goals as goal
 
 pub loop-place-preserved : goal.loop-place-preserved
 loop-place-preserved c =
-    let tasks = row_at c.args.table.now.rows c.args.row in
+    let tasks = tasks_in_row c.args.table.now.rows c.args.row in
     let at = c.loop-place.place in
     let task = c.task.result.now in
     let low : at < length tasks = omega (arith, c.loop-place-test.true, c.row_len-place-end.ensures.count) in
@@ -20,6 +20,6 @@ loop-place-preserved c =
 pub returns : goal.returns
 unfolding row_text
 returns c =
-    let tasks = row_at c.args.table.now.rows c.args.row in
+    let tasks = tasks_in_row c.args.table.now.rows c.args.row in
     let end : length tasks ≤ c.loop-place.place = omega (arith, c.loop-place-test.false, c.row_len-place-end.ensures.count) in
     c.loop-place.invariant ∙ ap (flat_map (task_text c.args.row)) (take_all c.loop-place.place tasks end)

@@ -1,5 +1,5 @@
 use Rattle.std.proofs.Common.{ap, get_or, ◌∙◌}
-use Rattle.control_state.proofs.Told.{number_at}
+use Rattle.control_state.proofs.WordsCounted.{number_at}
 use Rattle.control_state.proofs.telling.code_at.Goals as goal
 
 pub returns : goal.returns

@@ -3,7 +3,7 @@ use Rattle.std.specs.Prelude.{nat_lt}
 use Rattle.guards_model.specs.Channels.{has, tolerated_faults}
 use Rattle.guards_model.specs.Frames.{SourceValue}
 use Rattle.control_state.specs.Telling.{is_accused}
-use Rattle.control_state.proofs.Told.{count_told}
+use Rattle.control_state.proofs.WordsCounted.{count_told}
 use Rattle.control_state.proofs.telling.enough_accuse.Goals as goal
 
 pub returns : goal.returns

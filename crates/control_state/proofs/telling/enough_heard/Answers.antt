@@ -2,7 +2,7 @@ use Rattle.std.proofs.Common.{ap, ◌∙◌}
 use Rattle.std.specs.Prelude.{nat_lt, nat_le}
 use Rattle.guards_model.specs.Channels.{place_or, tolerated_faults}
 use Rattle.guards_model.specs.Frames.{SourceValue}
-use Rattle.control_state.proofs.Told.{count_told}
+use Rattle.control_state.proofs.WordsCounted.{count_told}
 use Rattle.control_state.proofs.telling.enough_heard.Goals as goal
 
 pub returns : goal.returns

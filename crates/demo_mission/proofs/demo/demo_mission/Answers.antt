@@ -1,4 +1,4 @@
-use Rattle.demo_mission.proofs.Parts.{are_demo_of, parts_make, parts_fit}
+use Rattle.demo_mission.proofs.DemoParts.{are_demo_of, parts_make, parts_fit}
 use Rattle.demo_mission.proofs.demo.demo_mission.Goals as goal
 
 pub invariant_of-result : goal.invariant_of-result

@@ -1,4 +1,4 @@
-use Rattle.demo_mission.proofs.Parts.{script_in_cycle}
+use Rattle.demo_mission.proofs.DemoParts.{script_in_cycle}
 use Rattle.demo_mission.proofs.demo.demo_script.Goals as goal
 
 pub new-requires-clause-slots : goal.new-requires-clause-slots

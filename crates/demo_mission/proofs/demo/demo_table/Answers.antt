@@ -1,7 +1,7 @@
 use Rattle.std.proofs.Common.{◌∙◌}
 use Rattle.task_table.specs.Tables.{places_of}
 use Rattle.task_table.specs.TableFaults.{table_fault}
-use Rattle.demo_mission.proofs.Parts.{no_table_fault, tasks_fit, tasks_named, table_is, answered_ok}
+use Rattle.demo_mission.proofs.DemoParts.{no_table_fault, tasks_fit, tasks_named, table_is, answered_ok}
 use Rattle.demo_mission.proofs.demo.demo_table.Goals as goal
 
 pub new-requires-clause-fit : goal.new-requires-clause-fit

@@ -1,5 +1,5 @@
 use Rattle.expr_text.proofs.Verdicts.{exact}
-use Rattle.expr_text.proofs.Fitting.{answer_fits}
+use Rattle.expr_text.proofs.NamedInExpressions.{answer_fits}
 use Rattle.expr_text.proofs.Parsed.{answer}
 use Rattle.expr_text.proofs.parsing.parse.Goals as goal
 

@@ -2,7 +2,7 @@ use Rattle.std.proofs.Common.{◌≡◌, ◌∙◌, ap, false, if◌then◌else�
 use Rattle.std.specs.Prelude.{slice_index_or}
 use Rattle.std.specs.List.{list_any}
 use Rattle.guards_model.specs.Damages.{is_damage}
-use Rattle.fault_script.proofs.Tables.{each_table}
+use Rattle.fault_script.proofs.StandingTables.{each_table}
 use Rattle.fault_script.proofs.ledger.damages.Goals as goal
 
 pub returns : goal.returns

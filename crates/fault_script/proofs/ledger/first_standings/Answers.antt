@@ -2,7 +2,7 @@ use Rattle.std.proofs.Common.{◌≡◌, ◌∙◌, ap, false, if◌then◌else�
 use Rattle.std.specs.Prelude.{slice_index_or}
 use Rattle.std.proofs.Common.{nat_lt}
 use Rattle.guards_model.specs.Modes.{ModeValue, up, down}
-use Rattle.fault_script.proofs.Tables.{each_table}
+use Rattle.fault_script.proofs.StandingTables.{each_table}
 use Rattle.fault_script.proofs.ledger.first_standings.Goals as goal
 
 pub returns : goal.returns

@@ -2,7 +2,7 @@ use Rattle.std.proofs.Common.{◌≡◌, ◌∙◌, ap, false, if◌then◌else�
 use Rattle.std.specs.Prelude.{slice_index_or}
 use Rattle.guards_model.specs.Modes.{down, scripted_mode_in_slot}
 use Rattle.fault_script.specs.Entries.{standing_at}
-use Rattle.fault_script.proofs.Tables.{each_table}
+use Rattle.fault_script.proofs.StandingTables.{each_table}
 use Rattle.fault_script.proofs.ledger.in_slot.Goals as goal
 
 pub returns : goal.returns

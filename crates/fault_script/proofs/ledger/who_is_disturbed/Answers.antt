@@ -2,7 +2,7 @@ use Rattle.std.proofs.Common.{◌≡◌, ◌∙◌, ◌&&◌, not, false}
 use Rattle.std.specs.Prelude.{slice_index_or, ◌||◌}
 use Rattle.guards_model.specs.Modes.{is_up}
 use Rattle.fault_script.specs.Entries.{standing_at}
-use Rattle.fault_script.proofs.Tables.{where_table}
+use Rattle.fault_script.proofs.StandingTables.{where_table}
 use Rattle.fault_script.proofs.ledger.who_is_disturbed.Goals as goal
 
 pub returns : goal.returns

@@ -4,7 +4,7 @@ use Rattle.guards_model.specs.Channels.{channels_where}
 use Rattle.guards_model.specs.Modes.{is_up, is_joining}
 use Rattle.guards_model.specs.Ledgers.{is_down}
 use Rattle.fault_script.specs.Entries.{standing_at}
-use Rattle.fault_script.proofs.Tables.{where_table}
+use Rattle.fault_script.proofs.StandingTables.{where_table}
 use Rattle.fault_script.proofs.ledger.who_turned_down.Goals as goal
 
 pub returns : goal.returns

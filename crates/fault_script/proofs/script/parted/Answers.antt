@@ -2,7 +2,7 @@ use Rattle.std.proofs.Common.{◌≡◌, ◌∙◌, ap, sym, ◌++◌, [], ◌�
 use Rattle.guards_model.specs.Faults.{FaultValue}
 use Rattle.guards_model.specs.Missions.{bus_rule}
 use Rattle.fault_script.specs.Entries.{fault_value, is_for_bus}
-use Rattle.fault_script.proofs.Parts.{one_more_rule, one_more_other}
+use Rattle.fault_script.proofs.ScriptEntries.{one_more_rule, one_more_other}
 use Rattle.fault_script.proofs.script.parted.Goals as goal
 
 pub loop-entry-preserved : goal.loop-entry-preserved

@@ -1,7 +1,7 @@
 use Rattle.std.proofs.Common.{Err, ap, arith}
 use Rattle.std.proofs.lemmas.Result.{err_from_is_err_and}
 use Rattle.guards_io.specs.Stream.{source_view}
-use Rattle.guards_io.proofs.Taking.{stopped}
+use Rattle.guards_io.proofs.SourceTaken.{stopped}
 use Rattle.guards_io.proofs.reading.read_all.Goals as goal
 
 pub returns-in_err-read_piece : goal.returns-in_err-read_piece

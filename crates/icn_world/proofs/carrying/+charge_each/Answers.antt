@@ -1,5 +1,5 @@
 use Rattle.std.proofs.Common.{sym, ◌∙◌}
-use Rattle.icn_world.proofs.Sent.{charges_one}
+use Rattle.icn_world.proofs.SlotSent.{charges_one}
 use Rattle.icn_world.proofs.carrying.+charge_each.Goals as goal
 
 pub returns-then-has-clause-charged : goal.returns-then-has-clause-charged

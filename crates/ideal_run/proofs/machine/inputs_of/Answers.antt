@@ -2,7 +2,7 @@ use Rattle.std.proofs.Common.{◌≡◌, ◌-◌, ◌++◌, false, None, replica
 use Rattle.guards_model.specs.Channels.{has, numbers_below, place_or}
 use Rattle.guards_model.specs.Missions.{RulesValue}
 use Rattle.guards_model.specs.Voting.{inputs_of}
-use Rattle.ideal_run.specs.Ideal.{ideal_inputs, sensed}
+use Rattle.guards_runs.specs.IdealMachine.{ideal_inputs, sensed}
 use Rattle.ideal_run.proofs.Sensing.{passive_none}
 use Rattle.ideal_run.proofs.machine.inputs_of.Goals as goal
 

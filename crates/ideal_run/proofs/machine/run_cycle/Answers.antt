@@ -3,13 +3,13 @@ use Rattle.guards_model.specs.Missions.{cycle_writes}
 use Rattle.guards_model.specs.Tasks.{whole}
 use Rattle.guards_nodes.proofs.PaddedInputs.{whole_same}
 use Rattle.task_table.specs.Tables.{TableValue, table_writes}
-use Rattle.ideal_run.specs.Ideal.{ideal, ideal_inputs}
+use Rattle.guards_runs.specs.IdealMachine.{ideal, ideal_inputs}
 use Rattle.ideal_run.proofs.IdealContexts.{ideal_length, ideal_next}
 use Rattle.ideal_run.proofs.machine.run_cycle.Goals as goal
 
 pub work-requires : goal.work-requires
 work-requires g c =
-    ap length c.requires ∙ ideal_length c.args.mission.now c.args.cycle ∙ c.know_sizes.ensures.initial ∙ sym (ap (λ (t : TableValue). t.blocks) c.table.ensures)
+    ap length c.requires ∙ ideal_length c.args.mission.now c.args.cycle ∙ c.prove_sizes.ensures.initial ∙ sym (ap (λ (t : TableValue). t.blocks) c.table.ensures)
 
 pub returns-clause-context : goal.returns-clause-context
 returns-clause-context g c =

@@ -1,7 +1,7 @@
 use Rattle.std.proofs.Common.{◌≡◌, map, ap, sym, ◌∙◌, arith}
 use Rattle.std.proofs.lemmas.List.{length-set, take_all}
 use Rattle.guards_model.specs.Channels.{by_channel, numbers_below}
-use Rattle.ideal_run.specs.Ideal.{sensed_at}
+use Rattle.guards_runs.specs.IdealMachine.{sensed_at}
 use Rattle.ideal_run.proofs.Shown.{table_more}
 use Rattle.ideal_run.proofs.machine.sensed.Goals as goal
 

@@ -1,6 +1,6 @@
 use Rattle.std.proofs.Common.{◌≡◌, length, map, take}
 use Rattle.guards_model.specs.Channels.{numbers_below}
-use Rattle.ideal_run.specs.Ideal.{sensed_at}
+use Rattle.guards_runs.specs.IdealMachine.{sensed_at}
 use Rattle.ideal_run.proofs.machine.sensed.Given as goal
 
 -- the channels before this number have their words

@@ -9,10 +9,10 @@ use Rattle.ideal_run.proofs.machine.source_word.Goals as goal
 pub invariant_of-result : goal.invariant_of-result
 invariant_of-result c =
     let M = c.args.mission.now in
-    let long = sensor_length M c.args.chan c.args.cycle c.is_mission.ensures c.requires in
+    let long = sensor_length M c.args.chan c.args.cycle c.prove_mission.ensures c.requires in
     let wide = ap (λ (m : MissionValue). m.width) c.mission.view_is in (
       subst (λ n. IsPadded 4 n c.sensor.result) (sym wide)
-          (subst (λ ws. IsPadded 4 M.width ws) (sym c.sensor.ensures) (is_padded (sensor M c.args.chan c.args.cycle) M.width long c.know_sizes.ensures.wide c.know_sizes.ensures.narrow)),
+          (subst (λ ws. IsPadded 4 M.width ws) (sym c.sensor.ensures) (is_padded (sensor M c.args.chan c.args.cycle) M.width long c.prove_sizes.ensures.wide c.prove_sizes.ensures.narrow)),
       refl,
     )
 
@@ -20,7 +20,7 @@ pub returns : goal.returns
 unfolding by_channel
 returns c =
     let M = c.args.mission.now in
-    let long = sensor_length M c.args.chan c.args.cycle c.is_mission.ensures c.requires in
+    let long = sensor_length M c.args.chan c.args.cycle c.prove_mission.ensures c.requires in
     let wide = ap (λ (m : MissionValue). m.width) c.mission.view_is in
     let used : take c.mission.inside.width c.sensor.result ≡ sensor M c.args.chan c.args.cycle =
     ap (λ n. take n c.sensor.result) wide ∙ ap (take M.width) c.sensor.ensures ∙ take_padded (sensor M c.args.chan c.args.cycle) M.width long _ in

@@ -1,15 +1,15 @@
 use Rattle.std.proofs.Common.{◌≡◌, ℕ, ℤ, ◌+◌, List, add-one, take, length, refl, ap, subst, ◌∙◌}
 use Rattle.std.specs.Prelude.{IfOk, suc}
 use Rattle.guards_model.specs.Missions.{RulesValue, output_words}
-use Rattle.ideal_run.specs.Ideal.{ideal, ideal_inputs}
-use Rattle.ideal_run.specs.Report.{part, record_text, record_with}
+use Rattle.guards_runs.specs.IdealMachine.{ideal, ideal_inputs}
+use Rattle.guards_runs.specs.IdealReport.{part, record_text, record_with}
 use Rattle.ideal_run.proofs.IdealContexts.{ideal_length}
 use Rattle.ideal_run.proofs.Sensing.{inputs_length, take_padded}
 use Rattle.ideal_run.proofs.records.cycle_text.Goals as goal
 
 pub output_words-ballot-requires : goal.output_words-ballot-requires
 output_words-ballot-requires g c =
-    ap length c.run_cycle-inputs.ensures.context ∙ ideal_length c.args.mission.now (c.args.cycle + 1) ∙ c.know_sizes.ensures.initial
+    ap length c.run_cycle-inputs.ensures.context ∙ ideal_length c.args.mission.now (c.args.cycle + 1) ∙ c.prove_sizes.ensures.initial
 
 pub returns-clause-text : goal.returns-clause-text
 unfolding part

@@ -2,7 +2,7 @@ use Rattle.std.proofs.Common.{◌≤◌, length, map, take, ap, ◌∙◌, arith
 use Rattle.guards_base.specs.Seen.{Seen}
 use Rattle.guards_model.specs.Records.{shown_line}
 use Rattle.guards_model.specs.Texts.{LineValue}
-use Rattle.ideal_run.specs.Report.{line_with}
+use Rattle.guards_runs.specs.IdealReport.{ideal_line}
 use Rattle.ideal_run.proofs.Shown.{lines_more}
 use Rattle.ideal_run.proofs.records.lines_of.Goals as goal
 use Rattle.ideal_run.proofs.records.lines_of.Goals.{in-Some+in_ok-push, in_default}
@@ -10,7 +10,7 @@ use Rattle.ideal_run.proofs.records.lines_of.Goals.{in-Some+in_ok-push, in_defau
 pub loop-number-preserved : goal.loop-number-preserved
 loop-number-preserved c = λ width.
     let outputs = length c.args.ballot.now in
-    let wanted = line_with c.args.channels (take width c.args.inputs) c.args.ballot.now in
+    let wanted = ideal_line c.args.channels (take width c.args.inputs) c.args.ballot.now in
     elim c.match-new.branch [
       | in-Some+in_ok-push w ↦
           ap (λ (lines : Seen LineValue). map (shown_line c.args.channels width outputs) lines.items) w.lines-is

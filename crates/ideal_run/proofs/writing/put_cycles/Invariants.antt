@@ -1,7 +1,7 @@
 use Rattle.std.proofs.Common.{◌≡◌}
 use Rattle.std.specs.Io.KnownBytes.{Appends}
-use Rattle.ideal_run.specs.Ideal.{ideal}
-use Rattle.ideal_run.specs.Report.{parts_below}
+use Rattle.guards_runs.specs.IdealMachine.{ideal}
+use Rattle.guards_runs.specs.IdealReport.{parts_below}
 use Rattle.ideal_run.proofs.writing.put_cycles.Given as goal
 
 -- the parts of the cycles before this one were written

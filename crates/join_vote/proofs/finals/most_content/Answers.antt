@@ -2,7 +2,7 @@ use Rattle.std.proofs.Common.{◌≡◌, ◌*◌, ◌∙◌, Bool, length, nat_l
 use Rattle.std.specs.Prelude.{count_by}
 use Rattle.guards_model.specs.Frames.{FinalValue}
 use Rattle.guards_model.specs.Replicas.{same_final}
-use Rattle.join_vote.proofs.Finding.{found_here, found_later}
+use Rattle.join_vote.proofs.FirstPassing.{found_here, found_later}
 use Rattle.join_vote.proofs.finals.most_content.Goals as goal
 
 pub returns-then-is_most : goal.returns-then-is_most

@@ -2,7 +2,7 @@ use Rattle.std.proofs.Common.{◌≡◌, ◌*◌, ◌==◌, ◌∙◌, ℕ, Bool
 use Rattle.std.specs.Prelude.{map, count_by}
 use Rattle.std.proofs.lemmas.List.{length-map}
 use Rattle.guards_model.specs.Frames.{SweepValue}
-use Rattle.join_vote.proofs.Finding.{found_here_by, found_later_by}
+use Rattle.join_vote.proofs.FirstPassing.{found_here_by, found_later_by}
 use Rattle.join_vote.proofs.sweeps.most_start.Goals as goal
 
 pub returns-then-is_most : goal.returns-then-is_most

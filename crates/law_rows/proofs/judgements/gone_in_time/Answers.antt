@@ -1,5 +1,5 @@
 use Rattle.std.proofs.Common.{refl}
-use Rattle.guards_runs.proofs.OnLiterals.{run_on_literals}
+use Rattle.guards_runs.proofs.RunsOnLiterals.{run_on_literals}
 use Rattle.guards_runs.proofs.DueTest.{run_if}
 use Rattle.law_rows.specs.GoneInTime as row
 use Rattle.law_rows.proofs.judgements.gone_in_time.Goals as goal

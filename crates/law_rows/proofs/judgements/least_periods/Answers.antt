@@ -2,7 +2,7 @@ use Rattle.std.proofs.Common.{true, false, [], ◌∷◌, refl, arith}
 use Rattle.guards_model.specs.declared.Law.TheVariants.{Multiply, Subtract}
 use Rattle.guards_model.specs.Missions.{IsMission}
 use Rattle.guards_model.proofs.OnLiterals.{model_on_literals}
-use Rattle.diagnosis_laws.proofs.LeastPeriods.{least_is, none_if_undecayed}
+use Rattle.recovery_laws.proofs.LeastPeriods.{least_is, none_if_undecayed}
 use Rattle.law_rows.specs.LawsOfDecay.{decaying}
 use Rattle.law_rows.proofs.judgements.least_periods.Goals as goal
 

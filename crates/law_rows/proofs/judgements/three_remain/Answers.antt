@@ -1,5 +1,5 @@
 use Rattle.std.proofs.Common.{refl}
-use Rattle.guards_runs.proofs.OnLiterals.{run_on_literals}
+use Rattle.guards_runs.proofs.RunsOnLiterals.{run_on_literals}
 use Rattle.law_rows.proofs.judgements.three_remain.Goals as goal
 
 pub returns-clause-undisturbed : goal.returns-clause-undisturbed

@@ -1,7 +1,7 @@
 use Rattle.std.proofs.Common.{refl, arith}
-use Rattle.guards_runs.proofs.OnLiterals.{run_on_literals}
+use Rattle.guards_runs.proofs.RunsOnLiterals.{run_on_literals}
 use Rattle.model_rows.specs.Restored as row
-use Rattle.transfer_laws.proofs.Kept.{had_since}
+use Rattle.recovery_laws.proofs.TargetsKept.{had_since}
 use Rattle.law_rows.proofs.lengths.crash_and_return_runs.Goals as goal
 
 pub returns-clause-starts : goal.returns-clause-starts

@@ -1,8 +1,8 @@
 use Rattle.std.proofs.Common.{refl, arith}
 use Rattle.guards_model.specs.Tags.{tags_of, tags_noted, tags_closed, plan_by_tags}
 use Rattle.demo_mission.specs.Demo.{next_number, drawn, draws, number_after, demo_task, demo_tasks, demo_mission}
-use Rattle.transfer_laws.specs.Lengths.{counted_length}
-use Rattle.transfer_laws.proofs.Counted.{fewer_counted}
+use Rattle.recovery_laws.specs.Lengths.{counted_length}
+use Rattle.recovery_laws.proofs.Counted.{fewer_counted}
 use Rattle.law_rows.proofs.lengths.demo_of_nine.Goals as goal
 
 pub returns-clause-bound : goal.returns-clause-bound

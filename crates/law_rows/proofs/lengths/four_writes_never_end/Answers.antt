@@ -1,9 +1,9 @@
 use Rattle.std.proofs.Common.{refl, arith}
 use Rattle.guards_model.proofs.OnLiterals.{model_on_literals}
 use Rattle.guards_model.specs.Tags.{tags_of, tags_noted, tags_closed, plan_by_tags}
-use Rattle.transfer_laws.specs.Lengths.{counted_length, GoesRound}
-use Rattle.transfer_laws.proofs.Counted.{never_fits, has_no_length}
-use Rattle.transfer_laws.proofs.Endless.{never_if_round}
+use Rattle.recovery_laws.specs.Lengths.{counted_length, GoesRound}
+use Rattle.recovery_laws.proofs.Counted.{never_fits, has_no_length}
+use Rattle.recovery_laws.proofs.Endless.{never_if_round}
 use Rattle.law_rows.specs.Missions.{four_writes}
 use Rattle.law_rows.proofs.lengths.four_writes_never_end.Goals as goal
 

@@ -2,9 +2,9 @@ use Rattle.std.proofs.Common.{◌≡◌, Some, refl, arith}
 use Rattle.guards_model.proofs.OnLiterals.{model_on_literals}
 use Rattle.guards_model.specs.Missions.{IsMission}
 use Rattle.guards_model.specs.Tags.{tags_of, tags_noted, tags_closed, plan_by_tags}
-use Rattle.transfer_laws.specs.Lengths.{counted_length, transfer_length}
-use Rattle.transfer_laws.proofs.Counted.{fewer_counted}
-use Rattle.transfer_laws.proofs.Endless.{first_if, ends_if_first}
+use Rattle.recovery_laws.specs.Lengths.{counted_length, transfer_length}
+use Rattle.recovery_laws.proofs.Counted.{fewer_counted}
+use Rattle.recovery_laws.proofs.Endless.{first_if, ends_if_first}
 use Rattle.law_rows.specs.Missions.{late_fit}
 use Rattle.law_rows.proofs.lengths.late_fits.Goals as goal
 

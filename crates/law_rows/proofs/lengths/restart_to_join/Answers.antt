@@ -1,5 +1,5 @@
 use Rattle.std.proofs.Common.{refl}
-use Rattle.guards_runs.proofs.OnLiterals.{run_on_literals}
+use Rattle.guards_runs.proofs.RunsOnLiterals.{run_on_literals}
 use Rattle.law_rows.proofs.lengths.restart_to_join.Goals as goal
 
 pub returns-clause-still_active : goal.returns-clause-still_active

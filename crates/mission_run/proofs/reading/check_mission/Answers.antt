@@ -1,6 +1,6 @@
 use Rattle.guards_io.specs.Stream.{source_view}
 use Rattle.ideal_run.specs.Writes.{sink_view}
-use Rattle.mission_run.proofs.Complete.{check_completes}
+use Rattle.mission_run.proofs.MissionTold.{check_completes}
 use Rattle.mission_run.proofs.reading.check_mission.Goals as goal
 
 pub returns-clause-completes : goal.returns-clause-completes

@@ -1,7 +1,7 @@
 use Rattle.std.proofs.Common.{refl}
 use Rattle.guards_model.specs.Tags.{tags_of}
 use Rattle.guards_model.specs.Controls.{control_of_word}
-use Rattle.guards_runs.proofs.OnLiterals.{run_on_literals}
+use Rattle.guards_runs.proofs.RunsOnLiterals.{run_on_literals}
 use Rattle.model_rows.proofs.held_nodes.nodes_of_a_restoration.Goals as goal
 
 pub returns-clause-sender : goal.returns-clause-sender

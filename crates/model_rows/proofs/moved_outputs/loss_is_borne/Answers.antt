@@ -1,5 +1,5 @@
 use Rattle.std.proofs.Common.{refl}
-use Rattle.guards_runs.proofs.OnLiterals.{run_on_literals}
+use Rattle.guards_runs.proofs.RunsOnLiterals.{run_on_literals}
 use Rattle.guards_runs.specs.ActedReport.{whole_report}
 use Rattle.model_rows.proofs.moved_outputs.loss_is_borne.Goals as goal
 

@@ -1,5 +1,5 @@
 use Rattle.std.proofs.Common.{refl}
-use Rattle.model_rows.proofs.OnLiterals.{judged_on_literals}
+use Rattle.model_rows.proofs.TracesOnLiterals.{judged_on_literals}
 use Rattle.model_rows.proofs.verdicts.restored.Goals as goal
 
 pub returns : goal.returns

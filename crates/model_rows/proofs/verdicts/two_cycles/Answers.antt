@@ -1,5 +1,5 @@
 use Rattle.std.proofs.Common.{refl}
-use Rattle.model_rows.proofs.OnLiterals.{judged_on_literals}
+use Rattle.model_rows.proofs.TracesOnLiterals.{judged_on_literals}
 use Rattle.model_rows.proofs.verdicts.two_cycles.Goals as goal
 
 pub returns-clause-is_text : goal.returns-clause-is_text

@@ -1,7 +1,7 @@
 use Rattle.std.proofs.Common.{[]}
 use Rattle.guards_runs.specs.Cycles.{cycles_before}
 use Rattle.guards_laws.proofs.ControlFacts.{controls_follow}
-use Rattle.node_laws.proofs.Stepping.{closes, answers, stands_at_final, stands_at_switch}
+use Rattle.node_laws.proofs.NodeStepped.{closes, answers, stands_at_final, stands_at_switch}
 use Rattle.node_laws.proofs.cycle.cycles_are_closed.Goals as goal
 
 pub returns-clause-state : goal.returns-clause-state

@@ -1,6 +1,6 @@
 use Rattle.guards_runs.specs.Cycles.{cycles_before}
 use Rattle.guards_laws.proofs.ControlFacts.{controls_follow}
-use Rattle.node_laws.proofs.Stepping.{decides}
+use Rattle.node_laws.proofs.NodeStepped.{decides}
 use Rattle.node_laws.proofs.slots.nodes_decide.Goals as goal
 
 pub returns : goal.returns

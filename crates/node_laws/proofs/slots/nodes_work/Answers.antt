@@ -1,7 +1,7 @@
 use Rattle.std.proofs.Common.{[]}
 use Rattle.guards_runs.specs.Cycles.{cycles_before}
 use Rattle.guards_laws.proofs.ControlFacts.{controls_follow}
-use Rattle.node_laws.proofs.Stepping.{origins, works}
+use Rattle.node_laws.proofs.NodeStepped.{origins, works}
 use Rattle.node_laws.proofs.slots.nodes_work.Goals as goal
 
 pub returns-clause-origin : goal.returns-clause-origin

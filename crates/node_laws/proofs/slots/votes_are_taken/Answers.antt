@@ -1,6 +1,6 @@
 use Rattle.guards_runs.specs.Cycles.{cycles_before}
 use Rattle.guards_laws.proofs.ControlFacts.{controls_follow}
-use Rattle.node_laws.proofs.Stepping.{votes, lines}
+use Rattle.node_laws.proofs.NodeStepped.{votes, lines}
 use Rattle.node_laws.proofs.slots.votes_are_taken.Goals as goal
 
 pub returns-clause-state : goal.returns-clause-state

@@ -2,7 +2,7 @@ use Rattle.std.proofs.Common.{[], ◌∷◌, ap, sym, ◌∙◌, arith}
 use Rattle.guards_model.specs.Frames.{ItemValue}
 use Rattle.guards_model.specs.OralMessages.{paths}
 use Rattle.oral_messages.proofs.Levels.{apart_two}
-use Rattle.oral_messages.proofs.Telling.{front_none, front_more, front_same, front_all, read_none, has_first, has_last}
+use Rattle.oral_messages.proofs.ItemsTold.{front_none, front_more, front_same, front_all, read_none, has_first, has_last}
 use Rattle.oral_messages.proofs.Formulas.{sizes}
 use Rattle.oral_messages.proofs.Ranged.{relays_good}
 use Rattle.oral_messages.proofs.owing.told_of_relays.Goals as goal

@@ -2,7 +2,7 @@ use Rattle.std.proofs.Common.{[], ◌∷◌, ap, sym, ◌∙◌, arith}
 use Rattle.guards_model.specs.Frames.{ItemValue}
 use Rattle.guards_model.specs.OralMessages.{paths}
 use Rattle.oral_messages.proofs.Levels.{apart_one}
-use Rattle.oral_messages.proofs.Telling.{front_none, front_more, front_same, front_all, read_none, has_one}
+use Rattle.oral_messages.proofs.ItemsTold.{front_none, front_more, front_same, front_all, read_none, has_one}
 use Rattle.oral_messages.proofs.Formulas.{sizes}
 use Rattle.oral_messages.proofs.Ranged.{sources_good}
 use Rattle.oral_messages.proofs.owing.told_of_sources.Goals as goal

@@ -1,5 +1,5 @@
 use Rattle.std.proofs.Common.{◌∙◌, sym, refl}
-use Rattle.oral_messages.proofs.Settling.{settled_here, settled_later, more, few}
+use Rattle.oral_messages.proofs.SettledBranches.{settled_here, settled_later, more, few}
 use Rattle.oral_messages.proofs.votes.settle.Goals as goal
 
 pub returns-then-more_equal : goal.returns-then-more_equal

@@ -1,4 +1,4 @@
-use Rattle.oral_messages.proofs.Settling.{same_masks}
+use Rattle.oral_messages.proofs.SettledBranches.{same_masks}
 use Rattle.oral_messages.proofs.words.same_set.Goals as goal
 
 pub returns : goal.returns

@@ -6,7 +6,7 @@ returns-clause-value c = λ i. record { channels = c.channels.ensures i; width =
 
 pub returns-clause-used : goal.returns-clause-used
 returns-clause-used c =
-    let sized = c.know_sizes.ensures in
+    let sized = c.prove_sizes.ensures in
     record {
       channels = (omega (arith, c.channels.ensures, sized.many), omega (arith, c.channels.ensures, sized.seven));
       width = (omega (arith, c.width.ensures, sized.wide), omega (arith, c.width.ensures, sized.narrow));

@@ -1,5 +1,5 @@
 use Rattle.std.proofs.Common.{◌≡◌, ◌+◌, ◌≤◌, length}
-use Rattle.report_lines.specs.Lines.{lines_in}
+use Rattle.guards_audit.specs.Lines.{lines_in}
 use Rattle.guards_audit.specs.Consistency.{Place}
 use Rattle.guards_audit.specs.Verdicts.{first_bad, first_bad_from}
 use Rattle.told_cycles.specs.Standing.{StandsAt}

@@ -1,4 +1,4 @@
-use Rattle.slot_traffic.proofs.Reading.{own_frame}
+use Rattle.slot_traffic.proofs.PiecesRead.{own_frame}
 use Rattle.slot_traffic.proofs.parcel.reading.Goals as goal
 
 pub returns-in-AsSent-clause-same : goal.returns-in-AsSent-clause-same

@@ -1,6 +1,6 @@
 use Rattle.std.proofs.Common.{◌∙◌, ap, sym, [], ◌∷◌}
 use Rattle.guards_model.specs.Channels.{channels_where, union}
-use Rattle.slot_traffic.proofs.Reading.{no_items}
+use Rattle.slot_traffic.proofs.PiecesRead.{no_items}
 use Rattle.slot_traffic.proofs.Charging.{charges, nobody, none_charged, one_charged}
 use Rattle.slot_traffic.proofs.traffic.+charged_of.Goals as goal
 

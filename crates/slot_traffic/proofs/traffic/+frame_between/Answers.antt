@@ -1,5 +1,5 @@
 use Rattle.std.proofs.Common.{◌∙◌, ap, sym}
-use Rattle.slot_traffic.proofs.Finding.{frame_found, found_here, found_later}
+use Rattle.slot_traffic.proofs.EntryFound.{frame_found, found_here, found_later}
 use Rattle.slot_traffic.proofs.traffic.+frame_between.Goals as goal
 
 pub returns-then-is_between-clause-same : goal.returns-then-is_between-clause-same

@@ -1,6 +1,6 @@
 use Rattle.std.proofs.Common.{◌∙◌}
 use Rattle.slot_traffic.specs.Receiving.{receiver_numbers}
-use Rattle.slot_traffic.proofs.Carrying.{frame_sent, few_sent}
+use Rattle.slot_traffic.proofs.PieceCarriedLemmas.{frame_sent, few_sent}
 use Rattle.slot_traffic.proofs.traffic.carried.Goals as goal
 
 pub returns-clause-some : goal.returns-clause-some

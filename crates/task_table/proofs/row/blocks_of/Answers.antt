@@ -7,7 +7,7 @@ use Rattle.guards_model.specs.Tasks.{WriteValue}
 use Rattle.guards_model.proofs.ListTests.{all-append}
 use Rattle.context_blocks.specs.BlockSets.{blocks_where}
 use Rattle.context_blocks.proofs.FlagSets.{where_none}
-use Rattle.task_table.specs.Tables.{task_at}
+use Rattle.task_table.specs.Tables.{nth_task}
 use Rattle.task_table.proofs.RowWrites.{named_writes, blocks_in, named_more, task_read}
 use Rattle.task_table.proofs.SetOfBlocks.{both_added}
 use Rattle.task_table.proofs.row.blocks_of.Goals as goal
@@ -20,7 +20,7 @@ loop-place-preserved c =
     let tasks = c.args.tasks.now in
     let row = c.args.row.now in
     let at = c.loop-place.place-index in
-    let this = task_at tasks (get_or row at 0) in
+    let this = nth_task tasks (get_or row at 0) in
     let writes = c.as_slice.result.now in
     let same : this.writes ≡ writes =
     ap (λ t. t.writes) (task_read tasks row at c.index-tasks-place.result c.requires c.loop-place-test.true c.index-tasks-place.is)

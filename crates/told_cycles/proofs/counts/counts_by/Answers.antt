@@ -5,7 +5,7 @@ use Rattle.told_cycles.proofs.OpenLemmas.{rules_parts}
 use Rattle.told_cycles.proofs.counts.counts_by.Goals as goal
 
 pub counts_after-requires : goal.counts_after-requires
-counts_after-requires c = subst (λ (r : RulesValue). r.keep ≤ 65536) (sym c.rules.ensures) (rules_parts c.args.mission.now c.is_mission.ensures).keep
+counts_after-requires c = subst (λ (r : RulesValue). r.keep ≤ 65536) (sym c.rules.ensures) (rules_parts c.args.mission.now c.prove_mission.ensures).keep
 
 pub returns : goal.returns
 returns c =

@@ -7,7 +7,7 @@ pub moved-requires : goal.moved-requires
 moved-requires g c =
     let M = c.args.mission.now in
     let long : length c.in_use.result.now ≡ length M.outputs = wanted_long M c.args.context.now c.in_use.result.now (c.in_use.ensures ∙ c.output_words-wanted.ensures) in
-    omega (arith, c.know_sizes.ensures.few)
+    omega (arith, c.prove_sizes.ensures.few)
 
 pub returns-in-Some : goal.returns-in-Some
 returns-in-Some g c =

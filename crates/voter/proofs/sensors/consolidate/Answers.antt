@@ -38,12 +38,12 @@ returns-clause-median c = whole c
 
 pub returns-clause-inputs : goal.returns-clause-inputs
 returns-clause-inputs c =
-    λ none. whole c ∙ ap (λ xs. xs ++ replicate (4 - c.args.width) (pos 0)) (inputs_whole c.args.active c.know_members.ensures c.args.words.now c.args.width c.type_inv.words none)
+    λ none. whole c ∙ ap (λ xs. xs ++ replicate (4 - c.args.width) (pos 0)) (inputs_whole c.args.active c.prove_members.ensures c.args.words.now c.args.width c.type_inv.words none)
 
 pub returns-clause-least : goal.returns-clause-least
 returns-clause-least c =
-    λ disturbed others k h. least_bound c.args.active c.know_members.ensures c.args.words.now disturbed c.args.width (4 - c.args.width) k c.loop-place.inputs (whole c) others h
+    λ disturbed others k h. least_bound c.args.active c.prove_members.ensures c.args.words.now disturbed c.args.width (4 - c.args.width) k c.loop-place.inputs (whole c) others h
 
 pub returns-clause-greatest : goal.returns-clause-greatest
 returns-clause-greatest c =
-    λ disturbed others k h. greatest_bound c.args.active c.know_members.ensures c.args.words.now disturbed c.args.width (4 - c.args.width) k c.loop-place.inputs (whole c) others h
+    λ disturbed others k h. greatest_bound c.args.active c.prove_members.ensures c.args.words.now disturbed c.args.width (4 - c.args.width) k c.loop-place.inputs (whole c) others h

@@ -1,4 +1,4 @@
-use Rattle.world_laws.proofs.Passing.{enters_cycle, enters_slot}
+use Rattle.world_laws.proofs.SlotsEntered.{enters_cycle, enters_slot}
 use Rattle.world_laws.proofs.cycle.slots_are_entered.Goals as goal
 
 pub returns-clause-first : goal.returns-clause-first

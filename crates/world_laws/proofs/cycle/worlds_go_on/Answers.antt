@@ -1,4 +1,4 @@
-use Rattle.world_laws.proofs.Standing.{world_goes_on}
+use Rattle.world_laws.proofs.LogStands.{world_goes_on}
 use Rattle.world_laws.proofs.cycle.worlds_go_on.Goals as goal
 
 pub returns : goal.returns

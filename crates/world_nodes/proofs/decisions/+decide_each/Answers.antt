@@ -1,4 +1,4 @@
-use Rattle.world_nodes.proofs.Deciding.{decided_more, removed_later}
+use Rattle.world_nodes.proofs.NodesDecided.{decided_more, removed_later}
 use Rattle.world_nodes.proofs.decisions.+decide_each.Goals as goal
 
 pub returns-in-Some-first-clause-state : goal.returns-in-Some-first-clause-state

@@ -2,7 +2,7 @@ use Rattle.std.proofs.Common.{ℕ, ap, sym, ◌∙◌}
 use Rattle.guards_model.specs.Channels.{has}
 use Rattle.guards_nodes.specs.NodeStates.{StateValue}
 use Rattle.guards_nodes.specs.NodeCalls.{in_state}
-use Rattle.world_nodes.proofs.Endings.{may_rise, ended_risen, joiner_stays}
+use Rattle.world_nodes.proofs.NodeModes.{may_rise, ended_risen, joiner_stays}
 use Rattle.world_nodes.proofs.ending.end_one.Goals as goal
 
 pub rise-requires : goal.rise-requires

@@ -15,7 +15,7 @@ use Rattle.world_nodes.proofs.opening.damage.Goals as goal
 pub damage_by-requires-clause-faults : goal.damage_by-requires-clause-faults
 damage_by-requires-clause-faults c =
     let M = c.args.mission.now in
-    let parts = both _ (list_all (is_fault M) M.script) c.is_mission.ensures.script in
+    let parts = both _ (list_all (is_fault M) M.script) c.prove_mission.ensures.script in
     let here : map fault_value c.others.result.now ≡ filter (λ (e : FaultValue). not (is_for_bus e)) M.script =
     c.others.ensures ∙ ap (filter (λ (e : FaultValue). not (is_for_bus e))) c.script.ensures in
     subst (λ (xs : List FaultValue). list_all (is_fault M) xs ≡ true) (sym here)

@@ -1,6 +1,6 @@
 use Rattle.std.proofs.Common.{rules, List, ◌∷◌, map, All, ap, sym, subst, ◌∙◌}
 use Rattle.guards_nodes.specs.NodeStates.{NodeValue}
-use Rattle.world_nodes.specs.NodeLists.{AllReceived, with_exchanges, MayReceive}
+use Rattle.guards_world.specs.NodeLists.{AllReceived, with_exchanges, MayReceive}
 use Rattle.world_nodes.proofs.Changes.{all_parts}
 use Rattle.world_nodes.proofs.rounds.+receive_each.Goals as goal
 

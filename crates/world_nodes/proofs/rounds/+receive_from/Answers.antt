@@ -5,7 +5,7 @@ use Rattle.guards_model.specs.Network.{items_of}
 use Rattle.guards_model.specs.Frames.{is_distinct}
 use Rattle.guards_nodes.specs.NodeSteps.{Received}
 use Rattle.guards_nodes.specs.NodeCalls.{changed}
-use Rattle.world_nodes.specs.NodeLists.{after_exchanges, MayTake}
+use Rattle.guards_world.specs.NodeLists.{after_exchanges, MayTake}
 use Rattle.world_nodes.proofs.Exchanges.{nothing_taken, receive_next, rest_distinct, received_all}
 use Rattle.world_nodes.proofs.rounds.+receive_from.Goals as goal
 

@@ -3,7 +3,7 @@ use Rattle.guards_model.specs.Channels.{ChannelSet}
 use Rattle.guards_model.specs.Frames.{is_distinct}
 use Rattle.guards_model.specs.Network.{items_of}
 use Rattle.guards_nodes.specs.NodeCalls.{changed}
-use Rattle.world_nodes.specs.NodeLists.{after_exchanges}
+use Rattle.guards_world.specs.NodeLists.{after_exchanges}
 use Rattle.world_nodes.proofs.Exchanges.{may_take_by, others_are, every_is_distinct}
 use Rattle.world_nodes.proofs.rounds.receive_round.Goals as goal
 

@@ -1,6 +1,6 @@
 use Rattle.std.proofs.Common.{sym, ap}
 use Rattle.icn_world.specs.Halts.{with_halt_value}
-use Rattle.acted_runs.specs.Driving.{with_part}
+use Rattle.run_laws.specs.Driving.{with_part}
 use Rattle.world_run.proofs.driving.exchanged.Goals as goal
 
 pub returns-in-Ok : goal.returns-in-Ok

@@ -1,13 +1,13 @@
 use Rattle.std.proofs.Common.{◌≡◌, Ok, Err, Some, length, rules, sym, subst}
 use Rattle.guards_model.specs.Missions.{MissionValue}
 use Rattle.guards_model.specs.Settled.{SettledValue}
-use Rattle.guards_world.specs.WorldCycle.{CycleOf}
-use Rattle.cycle_laws.specs.Fronts.{CarriesUpToStop}
+use Rattle.guards_world.specs.WorldCycle.{PassesCycle}
+use Rattle.world_laws.specs.Fronts.{CarriesUpToStop}
 use Rattle.icn_world.specs.Halts.{halt_value, with_halt_value}
 use Rattle.output_gate.specs.Exchanging.{MayExchange}
 use Rattle.output_gate.specs.Gates.{GateValue}
-use Rattle.acted_runs.specs.Driving.{Drives, Exchanged}
-use Rattle.acted_runs.proofs.Driving.{driven_finished_mission, driven_may, driven_may_cycle, drives_finished, drives_halted}
+use Rattle.run_laws.specs.Driving.{Drives, Exchanged}
+use Rattle.run_laws.proofs.Driving.{driven_finished_mission, driven_may, driven_may_cycle, drives_finished, drives_halted}
 use Rattle.world_run.specs.Running.{bus_value}
 use Rattle.world_run.proofs.driving.pass.Goals as goal
 
@@ -25,7 +25,7 @@ exchanged-requires g c =
     let new = c.cycle.new.self in
     let bus = bus_value (g.B.Bus.log c.args.bus.now) (g.B.Bus.script c.args.bus.now) in
     let mid = bus_value (g.B.Bus.log c.cycle.new.bus) (g.B.Bus.script c.cycle.new.bus) in
-    let cycled : CycleOf g.B.Bus.may w.spent w bus (Ok c.in-Ok.part) new mid = subst (λ r. CycleOf g.B.Bus.may w.spent w bus (with_halt_value r) new mid) c.in-Ok.is c.cycle.ensures.passes in
+    let cycled : PassesCycle g.B.Bus.may w.spent w bus (Ok c.in-Ok.part) new mid = subst (λ r. PassesCycle g.B.Bus.may w.spent w bus (with_halt_value r) new mid) c.in-Ok.is c.cycle.ensures.passes in
     let mission : new.mission ≡ M = driven_finished_mission g.B.Bus.may M start w bus c.args.actuator.now L histories new mid c.requires.below c.in-Ok.part cycled o at in
     let may : (gate : GateValue) → c.args.actuator.now ≡ Some gate → (s : SettledValue) × (new.settled ≡ Some s) × MayExchange new.mission.rules.version (length gate.words) c.in-Ok.part s =
     λ gate is.
@@ -41,7 +41,7 @@ returns-in-Ok g c =
     let bus = bus_value (g.B.Bus.log c.args.bus.now) (g.B.Bus.script c.args.bus.now) in
     let mid = bus_value (g.B.Bus.log c.cycle.new.bus) (g.B.Bus.script c.cycle.new.bus) in
     let after = bus_value (g.B.Bus.log c.exchanged.new.bus) (g.B.Bus.script c.exchanged.new.bus) in
-    let cycled : CycleOf g.B.Bus.may w.spent w bus (Ok c.in-Ok.part) new mid = subst (λ r. CycleOf g.B.Bus.may w.spent w bus (with_halt_value r) new mid) c.in-Ok.is c.cycle.ensures.passes in
+    let cycled : PassesCycle g.B.Bus.may w.spent w bus (Ok c.in-Ok.part) new mid = subst (λ r. PassesCycle g.B.Bus.may w.spent w bus (with_halt_value r) new mid) c.in-Ok.is c.cycle.ensures.passes in
     let mission : new.mission ≡ M = driven_finished_mission g.B.Bus.may M start w bus c.args.actuator.now L histories new mid c.requires.below c.in-Ok.part cycled o at in
     let (ended, exchanged, answer) = c.exchanged.ensures in
     let by : Exchanged g.B.Bus.may M.rules.version c.in-Ok.part new.settled mid after c.args.actuator.now c.exchanged.new.actuator ended =
@@ -56,6 +56,6 @@ returns-in-Err g c =
     let new = c.cycle.new.self in
     let bus = bus_value (g.B.Bus.log c.args.bus.now) (g.B.Bus.script c.args.bus.now) in
     let after = bus_value (g.B.Bus.log c.cycle.new.bus) (g.B.Bus.script c.cycle.new.bus) in
-    let cycled : CycleOf g.B.Bus.may w.spent w bus (Err (halt_value c.in-Err.halt)) new after = subst (λ r. CycleOf g.B.Bus.may w.spent w bus (with_halt_value r) new after) c.in-Err.is c.cycle.ensures.passes in
+    let cycled : PassesCycle g.B.Bus.may w.spent w bus (Err (halt_value c.in-Err.halt)) new after = subst (λ r. PassesCycle g.B.Bus.may w.spent w bus (with_halt_value r) new after) c.in-Err.is c.cycle.ensures.passes in
     let no_further : CarriesUpToStop w bus (Err (halt_value c.in-Err.halt)) after = subst (λ r. CarriesUpToStop w bus (with_halt_value r) after) c.in-Err.is c.cycle.ensures.up_to_stop in
     drives_halted g.B.Bus.may M start w bus c.args.actuator.now L histories new after c.requires.below o at (halt_value c.in-Err.halt) cycled no_further

@@ -1,8 +1,8 @@
 use Rattle.std.proofs.Common.{length, ap, sym, subst, ◌∙◌}
 use Rattle.guards_model.specs.Missions.{MissionValue}
 use Rattle.icn_world.specs.Halts.{with_halt_value}
-use Rattle.acted_runs.specs.Driving.{Drives}
-use Rattle.acted_runs.proofs.Driving.{driven_fits}
+use Rattle.run_laws.specs.Driving.{Drives}
+use Rattle.run_laws.proofs.Driving.{driven_fits}
 use Rattle.world_run.specs.Running.{bus_value, cycle_text}
 use Rattle.world_run.specs.Keeping.{Keeps}
 use Rattle.world_run.proofs.Keepings.{keep_done, keep_halted}

@@ -3,8 +3,8 @@ use Rattle.std.proofs.lemmas.Result.{err_from_is_err_and}
 use Rattle.flight_log.specs.Kept.{kept}
 use Rattle.guards_model.specs.Missions.{MissionValue}
 use Rattle.guards_world.specs.Worlds.{WorldValue, first_world}
-use Rattle.acted_runs.specs.Driving.{IsDriven}
-use Rattle.acted_runs.proofs.Driving.{mission_begins}
+use Rattle.run_laws.specs.Driving.{IsDriven}
+use Rattle.run_laws.proofs.Driving.{mission_begins}
 use Rattle.world_run.specs.Running.{bus_value}
 use Rattle.world_run.proofs.Keepings.{first_kept, kept_mission, kept_cycles}
 use Rattle.world_run.proofs.keeping.keep_cycles.Goals as goal

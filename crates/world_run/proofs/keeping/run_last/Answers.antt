@@ -1,12 +1,12 @@
 use Rattle.std.proofs.Common.{◌≡◌, ◌++◌, ◌∙◌, ap, sym, subst}
 use Rattle.flight_log.specs.Kept.{Kept}
-use Rattle.ideal_run.specs.Report.{head, last}
+use Rattle.guards_runs.specs.IdealReport.{head, last}
 use Rattle.ideal_run.specs.Writes.{SinkView, sink_view}
 use Rattle.world_run.specs.Running.{bus_value, Puts}
 use Rattle.world_run.specs.Keeping.{KeepsTo, RunsLast, TellsKept, kept_text}
 use Rattle.std.specs.Prelude.{option_map}
-use Rattle.acted_runs.specs.Driving.{first_gate}
-use Rattle.acted_runs.proofs.Driving.{mission_begins}
+use Rattle.run_laws.specs.Driving.{first_gate}
+use Rattle.run_laws.proofs.Driving.{mission_begins}
 use Rattle.world_run.proofs.Keepings.{kept_mission, last_done, last_halted, not_begun}
 use Rattle.world_run.proofs.keeping.run_last.Goals as goal
 
@@ -40,7 +40,7 @@ returns-in-Ok-keep_cycles g c =
     let wrote : Puts out out' (kept_text (head M) log.parts ++ last M) c.put_kept.result =
     subst (λ h. Puts out out' (kept_text h log.parts ++ last M) c.put_kept.result) first
     (subst (λ m. Puts out out' (kept_text c.in-Ok.head log.parts ++ last m) c.put_kept.result) (c.mission-in-Ok-keep_cycles.ensures ∙ kept_mission g.B.Bus.may c.args.last c.args.trace M M.actuator start w bus gate log at.0) c.put_kept.ensures) in
-    subst (λ r. RunsLast g.B.Bus.may c.args.last c.args.trace M M.actuator start bus out out' r) (sym c.told.ensures)
+    subst (λ r. RunsLast g.B.Bus.may c.args.last c.args.trace M M.actuator start bus out out' r) (sym c.run_result.ensures)
     (last_done g.B.Bus.may c.args.last c.args.trace M M.actuator start w bus gate log out out' at.0 at.1 c.put_kept.result wrote)
 
 pub returns : goal.returns

@@ -1,31 +1,31 @@
 use Rattle.std.proofs.Common.{ap, sym, ◌∙◌, arith}
 use Rattle.std.proofs.lemmas.Result.{err_from_is_err_and}
 use Rattle.guards_model.specs.Missions.{MissionValue}
-use Rattle.world_run.proofs.Steps.{at_mission, at_cycles}
+use Rattle.world_run.proofs.RunSteps.{at_mission, at_cycles}
 use Rattle.world_run.proofs.running.run_cycles.Goals as goal
 
-pub step-requires-clause-below : goal.step-requires-clause-below
-step-requires-clause-below g c =
+pub run_cycle-requires-clause-below : goal.run_cycle-requires-clause-below
+run_cycle-requires-clause-below g c =
     let inv = c.loop-cycle.invariant in
     let kept = ap (λ (m : MissionValue). m.cycles) inv.kept in
     let end = c.cycles-cycle-end.ensures ∙ ap (λ (m : MissionValue). m.cycles) c.mission.ensures in
     omega (arith, kept, end, c.loop-cycle-test.true, inv.done)
 
-pub returns-in_err-step : goal.returns-in_err-step
-returns-in_err-step g c =
+pub returns-in_err-run_cycle : goal.returns-in_err-run_cycle
+returns-in_err-run_cycle g c =
     let p = err_from_is_err_and c.from_residual.result c.from_residual.ensures.1 in
-    rw (p.1, p.2) (λ o M start begun at. c.in_err-step.ensures o M start begun (c.loop-cycle.invariant.each o M start begun at))
+    rw (p.1, p.2) (λ o M start begun at. c.in_err-run_cycle.ensures o M start begun (c.loop-cycle.invariant.each o M start begun at))
 
 pub loop-cycle-preserved : goal.loop-cycle-preserved
 loop-cycle-preserved g c =
     let inv = c.loop-cycle.invariant in
     let (o, M, start, begun, at) = inv.some in
-    let next = c.in_ok-step.ensures o M start begun at in
+    let next = c.in_ok-run_cycle.ensures o M start begun at in
     record {
       done = omega (arith, next.1, inv.done);
       kept = at_mission _ _ _ o _ _ _ _ _ _ next.0 ∙ sym (at_mission _ _ _ o _ _ _ _ _ _ at) ∙ inv.kept;
       some = (o, M, start, begun, next.0);
-      each = λ o M start begun before. (c.in_ok-step.ensures o M start begun (inv.each o M start begun before)).0;
+      each = λ o M start begun before. (c.in_ok-run_cycle.ensures o M start begun (inv.each o M start begun before)).0;
     }
 
 pub returns : goal.returns

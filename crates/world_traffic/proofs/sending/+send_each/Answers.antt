@@ -1,9 +1,9 @@
 use Rattle.std.proofs.Common.{rules, List, All, sym, subst}
 use Rattle.guards_nodes.specs.NodeStates.{NodeValue}
 use Rattle.slot_traffic.specs.Receiving.{receiver_numbers}
-use Rattle.world_nodes.specs.NodeLists.{AllReceived, StandsAt}
+use Rattle.guards_world.specs.NodeLists.{AllReceived, StandsForReceived}
 use Rattle.world_nodes.proofs.Changes.{all_parts}
-use Rattle.world_traffic.specs.SlotSends.{MaySend, Sends, SendsSome, all_sends, sends_of}
+use Rattle.guards_world.specs.SlotSends.{MaySend, SendsSlot, SendsFirstOfSlot, all_sends, sends_of}
 use Rattle.world_traffic.proofs.Growing.{on_same, sent_on, some_on, some_first}
 use Rattle.world_traffic.proofs.sending.+send_each.Goals as goal
 
@@ -14,7 +14,7 @@ send_node-requires g t c =
     let node = c.in-Some.node.now in
     let rest = c.in-Some.rest.now in (
       held.0,
-      (all_parts (StandsAt held.0) node rest (subst (λ (nodes : List NodeValue). All (StandsAt held.0) nodes) c.in-Some.ensures.cases.0 held.1)).0,
+      (all_parts (StandsForReceived held.0) node rest (subst (λ (nodes : List NodeValue). All (StandsForReceived held.0) nodes) c.in-Some.ensures.cases.0 held.1)).0,
       (all_parts (MaySend c.args.mission.now before.cycle before.slot held.0) node rest
           (subst (λ (nodes : List NodeValue). All (MaySend c.args.mission.now before.cycle before.slot held.0) nodes) c.in-Some.ensures.cases.0 held.2)).0,
     )
@@ -26,10 +26,10 @@ send_each-requires g t c κs within =
     let between = c.send_node.new.traffic in
     let node = c.in-Some.node.now in
     let rest = c.in-Some.rest.now in
-    let stands = all_parts (StandsAt held.0) node rest (subst (λ (nodes : List NodeValue). All (StandsAt held.0) nodes) c.in-Some.ensures.cases.0 held.1) in
+    let stands = all_parts (StandsForReceived held.0) node rest (subst (λ (nodes : List NodeValue). All (StandsForReceived held.0) nodes) c.in-Some.ensures.cases.0 held.1) in
     let may = all_parts (MaySend c.args.mission.now before.cycle before.slot held.0) node rest
     (subst (λ (nodes : List NodeValue). All (MaySend c.args.mission.now before.cycle before.slot held.0) nodes) c.in-Some.ensures.cases.0 held.2) in
-    let later : (received : AllReceived) × All (StandsAt received) rest × All (MaySend c.args.mission.now between.cycle between.slot received) rest = (
+    let later : (received : AllReceived) × All (StandsForReceived received) rest × All (MaySend c.args.mission.now between.cycle between.slot received) rest = (
       held.0,
       stands.1,
       on_same g.B.Bus.may (g.B.Bus.script c.args.bus.now) (g.B.Bus.log c.args.bus.now) (g.B.Bus.log c.send_node.new.bus)
@@ -47,8 +47,8 @@ returns-in-Ok-send_each-clause-sent g t c = λ received all.
     let to = receiver_numbers c.args.to.now in
     let script = g.B.Bus.script c.args.bus.now in
     let log = g.B.Bus.log c.args.bus.now in
-    let stands = all_parts (StandsAt received) node rest (subst (λ (nodes : List NodeValue). All (StandsAt received) nodes) c.in-Some.ensures.cases.0 all) in
-    subst (λ (nodes : List NodeValue). Sends g.B.Bus.may script log (g.B.Bus.log c.send_each.new.bus) (all_sends M before.cycle before.slot to received nodes) before c.send_each.new.traffic)
+    let stands = all_parts (StandsForReceived received) node rest (subst (λ (nodes : List NodeValue). All (StandsForReceived received) nodes) c.in-Some.ensures.cases.0 all) in
+    subst (λ (nodes : List NodeValue). SendsSlot g.B.Bus.may script log (g.B.Bus.log c.send_each.new.bus) (all_sends M before.cycle before.slot to received nodes) before c.send_each.new.traffic)
     (sym c.in-Some.ensures.cases.0)
     (sent_on g.B.Bus.may script (g.B.Bus.script c.send_node.new.bus) log (g.B.Bus.log c.send_node.new.bus) (g.B.Bus.log c.send_each.new.bus)
     (sends_of M before.cycle before.slot to (received node.channel) node) (λ cycle slot. all_sends M cycle slot to received rest)
@@ -64,8 +64,8 @@ returns-in-Err-send_each-clause-some g t c = λ received all.
     let to = receiver_numbers c.args.to.now in
     let script = g.B.Bus.script c.args.bus.now in
     let log = g.B.Bus.log c.args.bus.now in
-    let stands = all_parts (StandsAt received) node rest (subst (λ (nodes : List NodeValue). All (StandsAt received) nodes) c.in-Some.ensures.cases.0 all) in
-    subst (λ (nodes : List NodeValue). SendsSome g.B.Bus.may script log (g.B.Bus.log c.send_each.new.bus) (all_sends M before.cycle before.slot to received nodes) before c.send_each.new.traffic)
+    let stands = all_parts (StandsForReceived received) node rest (subst (λ (nodes : List NodeValue). All (StandsForReceived received) nodes) c.in-Some.ensures.cases.0 all) in
+    subst (λ (nodes : List NodeValue). SendsFirstOfSlot g.B.Bus.may script log (g.B.Bus.log c.send_each.new.bus) (all_sends M before.cycle before.slot to received nodes) before c.send_each.new.traffic)
     (sym c.in-Some.ensures.cases.0)
     (some_on g.B.Bus.may script (g.B.Bus.script c.send_node.new.bus) log (g.B.Bus.log c.send_node.new.bus) (g.B.Bus.log c.send_each.new.bus)
     (sends_of M before.cycle before.slot to (received node.channel) node) (λ cycle slot. all_sends M cycle slot to received rest)
@@ -81,8 +81,8 @@ returns-in-Err-clause-some g t c = λ received all.
     let to = receiver_numbers c.args.to.now in
     let script = g.B.Bus.script c.args.bus.now in
     let log = g.B.Bus.log c.args.bus.now in
-    let stands = all_parts (StandsAt received) node rest (subst (λ (nodes : List NodeValue). All (StandsAt received) nodes) c.in-Some.ensures.cases.0 all) in
-    subst (λ (nodes : List NodeValue). SendsSome g.B.Bus.may script log (g.B.Bus.log c.send_node.new.bus) (all_sends M before.cycle before.slot to received nodes) before c.send_node.new.traffic)
+    let stands = all_parts (StandsForReceived received) node rest (subst (λ (nodes : List NodeValue). All (StandsForReceived received) nodes) c.in-Some.ensures.cases.0 all) in
+    subst (λ (nodes : List NodeValue). SendsFirstOfSlot g.B.Bus.may script log (g.B.Bus.log c.send_node.new.bus) (all_sends M before.cycle before.slot to received nodes) before c.send_node.new.traffic)
     (sym c.in-Some.ensures.cases.0)
     (some_first g.B.Bus.may script log (g.B.Bus.log c.send_node.new.bus)
     (sends_of M before.cycle before.slot to (received node.channel) node) (all_sends M before.cycle before.slot to received rest)

@@ -2,7 +2,7 @@ use Rattle.std.proofs.Common.{List, sym, subst, filter, ◌∙◌}
 use Rattle.guards_model.specs.Channels.{has}
 use Rattle.guards_nodes.specs.NodeFrames.{framed}
 use Rattle.guards_world.specs.OwedFrames.{body_of}
-use Rattle.world_traffic.specs.SlotSends.{SendValue, Sends, SendsSome, sends_by, sends_of}
+use Rattle.guards_world.specs.SlotSends.{SendValue, SendsSlot, SendsFirstOfSlot, sends_by, sends_of}
 use Rattle.world_traffic.proofs.Growing.{sent_on, some_on, some_first}
 use Rattle.world_traffic.proofs.NodeSends.{targets_list}
 use Rattle.world_traffic.proofs.sending.+send_targets.Goals as goal
@@ -16,11 +16,11 @@ returns-in-Ok-send_targets-clause-sent g t c = λ received stands.
     let target = c.in-Some.target.now in
     let script = g.B.Bus.script c.args.bus.now in
     let log = g.B.Bus.log c.args.bus.now in
-    subst (λ (l : List SendValue). Sends g.B.Bus.may script log (g.B.Bus.log c.send_targets.new.bus) l before c.send_targets.new.traffic)
-    (targets_list M before.cycle before.slot mine node c.args.targets c.single.result target c.in-Some.rest.now c.args.channels.now c.in-Some.ensures.cases.0
-    (sym c.has.ensures ∙ c.if-has.true) c.single.ensures)
+    subst (λ (l : List SendValue). SendsSlot g.B.Bus.may script log (g.B.Bus.log c.send_targets.new.bus) l before c.send_targets.new.traffic)
+    (targets_list M before.cycle before.slot mine node c.args.targets c.set_of_one.result target c.in-Some.rest.now c.args.channels.now c.in-Some.ensures.cases.0
+    (sym c.has.ensures ∙ c.if-has.true) c.set_of_one.ensures)
     (sent_on g.B.Bus.may script (g.B.Bus.script c.send_owed.new.bus) log (g.B.Bus.log c.send_owed.new.bus) (g.B.Bus.log c.send_targets.new.bus)
-    (sends_by before.cycle before.slot c.single.result (framed node before.cycle (body_of M mine before.slot target node.state)))
+    (sends_by before.cycle before.slot c.set_of_one.result (framed node before.cycle (body_of M mine before.slot target node.state)))
     (λ cycle slot. sends_of M cycle slot (filter (has c.args.targets) c.in-Some.rest.now) mine node)
     before c.send_owed.new.traffic c.send_targets.new.traffic c.send_owed.ensures.script
     (c.in-Ok.ensures.sent received stands) (c.in-Ok-send_targets.ensures.sent received stands))
@@ -34,11 +34,11 @@ returns-in-Err-send_targets-clause-some g t c = λ received stands.
     let target = c.in-Some.target.now in
     let script = g.B.Bus.script c.args.bus.now in
     let log = g.B.Bus.log c.args.bus.now in
-    subst (λ (l : List SendValue). SendsSome g.B.Bus.may script log (g.B.Bus.log c.send_targets.new.bus) l before c.send_targets.new.traffic)
-    (targets_list M before.cycle before.slot mine node c.args.targets c.single.result target c.in-Some.rest.now c.args.channels.now c.in-Some.ensures.cases.0
-    (sym c.has.ensures ∙ c.if-has.true) c.single.ensures)
+    subst (λ (l : List SendValue). SendsFirstOfSlot g.B.Bus.may script log (g.B.Bus.log c.send_targets.new.bus) l before c.send_targets.new.traffic)
+    (targets_list M before.cycle before.slot mine node c.args.targets c.set_of_one.result target c.in-Some.rest.now c.args.channels.now c.in-Some.ensures.cases.0
+    (sym c.has.ensures ∙ c.if-has.true) c.set_of_one.ensures)
     (some_on g.B.Bus.may script (g.B.Bus.script c.send_owed.new.bus) log (g.B.Bus.log c.send_owed.new.bus) (g.B.Bus.log c.send_targets.new.bus)
-    (sends_by before.cycle before.slot c.single.result (framed node before.cycle (body_of M mine before.slot target node.state)))
+    (sends_by before.cycle before.slot c.set_of_one.result (framed node before.cycle (body_of M mine before.slot target node.state)))
     (λ cycle slot. sends_of M cycle slot (filter (has c.args.targets) c.in-Some.rest.now) mine node)
     before c.send_owed.new.traffic c.send_targets.new.traffic c.send_owed.ensures.script
     (c.in-Ok.ensures.sent received stands) (c.in-Err-send_targets.ensures.some received stands))
@@ -52,10 +52,10 @@ returns-in-Err-clause-some g t c = λ received stands.
     let target = c.in-Some.target.now in
     let script = g.B.Bus.script c.args.bus.now in
     let log = g.B.Bus.log c.args.bus.now in
-    subst (λ (l : List SendValue). SendsSome g.B.Bus.may script log (g.B.Bus.log c.send_owed.new.bus) l before c.send_owed.new.traffic)
-    (targets_list M before.cycle before.slot mine node c.args.targets c.single.result target c.in-Some.rest.now c.args.channels.now c.in-Some.ensures.cases.0
-    (sym c.has.ensures ∙ c.if-has.true) c.single.ensures)
+    subst (λ (l : List SendValue). SendsFirstOfSlot g.B.Bus.may script log (g.B.Bus.log c.send_owed.new.bus) l before c.send_owed.new.traffic)
+    (targets_list M before.cycle before.slot mine node c.args.targets c.set_of_one.result target c.in-Some.rest.now c.args.channels.now c.in-Some.ensures.cases.0
+    (sym c.has.ensures ∙ c.if-has.true) c.set_of_one.ensures)
     (some_first g.B.Bus.may script log (g.B.Bus.log c.send_owed.new.bus)
-    (sends_by before.cycle before.slot c.single.result (framed node before.cycle (body_of M mine before.slot target node.state)))
+    (sends_by before.cycle before.slot c.set_of_one.result (framed node before.cycle (body_of M mine before.slot target node.state)))
     (sends_of M before.cycle before.slot (filter (has c.args.targets) c.in-Some.rest.now) mine node)
     before c.send_owed.new.traffic (c.in-Err.ensures.some received stands))

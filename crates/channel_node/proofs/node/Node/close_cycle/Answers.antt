@@ -7,8 +7,8 @@ use Rattle.task_table.specs.Tables.{TableValue, table_writes}
 use Rattle.std.specs.Prelude.{map}
 use Rattle.guards_nodes.specs.NodeStates.{running, RunningValue}
 use Rattle.guards_nodes.specs.NodeSteps.{after_close, plan_in}
-use Rattle.node_rounds.specs.Closing.{closed_value}
-use Rattle.channel_node.proofs.Closes.{closes}
+use Rattle.channel_node.specs.Closing.{closed_value}
+use Rattle.channel_node.proofs.NodeClosed.{closes}
 use Rattle.channel_node.proofs.node.Node.close_cycle.Goals as goal
 
 pub returns : goal.returns

@@ -1,6 +1,6 @@
 use Rattle.std.proofs.Common.{◌≡◌, ◌∙◌, sym, subst, ap, rules, Some}
 use Rattle.guards_nodes.specs.NodeStates.{running, RunningValue}
-use Rattle.node_rounds.specs.Lines.{whole_line}
+use Rattle.guards_nodes.specs.WholeLines.{whole_line}
 use Rattle.channel_node.proofs.node.Node.take_votes.Goals as goal
 
 pub returns-clause-line : goal.returns-clause-line

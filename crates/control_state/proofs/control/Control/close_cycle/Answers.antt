@@ -1,7 +1,7 @@
 use Rattle.std.proofs.Common.{◌≡◌, ℕ, List, Option, sym, ap, ◌∙◌}
 use Rattle.guards_model.specs.Missions.{RulesValue}
 use Rattle.guards_model.specs.Controls.{SweepingValue, ControlValue, sweeping_after, control_closed, closed_by}
-use Rattle.control_state.proofs.Closes.{are_closed, joined1, start1, remaining1, rest1, swept1, control1}
+use Rattle.control_state.proofs.ControlClosed.{are_closed, joined1, start1, remaining1, rest1, swept1, control1}
 use Rattle.control_state.proofs.Cycles.{stand_next}
 use Rattle.control_state.proofs.control.Control.close_cycle.Goals as goal
 
@@ -20,7 +20,7 @@ returns-clause-joined c =
 pub returns-clause-start : goal.returns-clause-start
 returns-clause-start c =
     let known = are_closed c.args.rules.now.last c.self.inside.active c.self.inside.fresh c.self.inside.alphas c.self.inside.transfer c.args.decision.now.removed c.args.decision.now.plan c.args.written.now c.close_transfer.new.transfer c.joined-joined.result c.rules.inside.last c.close_transfer.ensures (ap (λ (r : RulesValue). r.last) c.rules.view_is) c.joined-joined.ensures in
-    start1 c.args.rules.now.last c.self.inside.active c.self.inside.fresh c.self.inside.alphas c.self.inside.transfer c.args.decision.now.removed c.args.decision.now.plan c.args.written.now c.close_transfer.new.transfer c.joined-joined.result known c.start.result c.start.ensures
+    start1 c.args.rules.now.last c.self.inside.active c.self.inside.fresh c.self.inside.alphas c.self.inside.transfer c.args.decision.now.removed c.args.decision.now.plan c.args.written.now c.close_transfer.new.transfer c.joined-joined.result known c.start_if_joined.result c.start_if_joined.ensures
     ∙ ap (λ (k : ControlValue). (closed_by c.args.rules.now.last c.args.decision.now.plan c.args.written.now k).start) c.self.view_is
 
 pub returns-clause-remaining : goal.returns-clause-remaining

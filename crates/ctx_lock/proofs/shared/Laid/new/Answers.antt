@@ -4,7 +4,7 @@ use Rattle.guards_model.specs.declared.Actor.{Actor}
 use Rattle.ctx_lock.specs.History.{times}
 use Rattle.ctx_lock.proofs.Seating.{made_first, splits, claims_sweep}
 use Rattle.ctx_lock.proofs.Seats.{opens_as, still_opens}
-use Rattle.ctx_lock.proofs.Closing.{stays_empty}
+use Rattle.ctx_lock.proofs.TableClosed.{stays_empty}
 use Rattle.ctx_lock.proofs.shared.Laid.new.Goals as goal
 
 pub vacant-requires : goal.vacant-requires

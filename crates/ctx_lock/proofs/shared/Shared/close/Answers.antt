@@ -7,8 +7,8 @@ use Rattle.ctx_lock.specs.History.{times, one_if}
 use Rattle.ctx_lock.specs.Views.{has, made}
 use Rattle.ctx_lock.specs.Passes.{AreStepsOf, IsClosed}
 use Rattle.ctx_lock.proofs.Joining.{joins}
-use Rattle.ctx_lock.proofs.Stepping.{one_self}
-use Rattle.ctx_lock.proofs.Closing.{gives_back}
+use Rattle.ctx_lock.proofs.StepMade.{one_self}
+use Rattle.ctx_lock.proofs.TableClosed.{gives_back}
 use Rattle.ctx_lock.proofs.shared.Shared.close.Goals as goal
 
 -- a seat for one actor has it

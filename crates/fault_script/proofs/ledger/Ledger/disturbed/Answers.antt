@@ -1,6 +1,6 @@
 use Rattle.std.proofs.Common.{◌≡◌, ◌∙◌, subst}
 use Rattle.guards_model.specs.Ledgers.{LedgerValue, disturbed_by}
-use Rattle.fault_script.proofs.Steps.{who_are}
+use Rattle.fault_script.proofs.LedgerSteps.{who_are}
 use Rattle.fault_script.proofs.ledger.Ledger.disturbed.Goals as goal
 
 pub returns : goal.returns

@@ -6,7 +6,7 @@ use Rattle.guards_model.specs.Damages.{is_damage}
 use Rattle.guards_model.specs.Ledgers.{LedgerValue, is_down, ledger_at_start, ledger_in_slot, ledger_at_end, turned_joining, turned_down, left_up}
 use Rattle.fault_script.specs.Entries.{standing_at}
 use Rattle.fault_script.specs.contracts.ledger.Ledger.{the_view}
-use Rattle.fault_script.proofs.Steps.{stepped, turned, length_made, no_marks, ends_alike}
+use Rattle.fault_script.proofs.LedgerSteps.{stepped, turned, length_made, no_marks, ends_alike}
 use Rattle.fault_script.proofs.ledger.Ledger.end_cycle.Goals as goal
 
 pub returns-clause-ledger : goal.returns-clause-ledger

@@ -2,7 +2,7 @@ use Rattle.std.proofs.Common.{◌∷◌, [], ◌++◌, ap, map, sym, ◌∙◌, 
 use Rattle.circular_buffer.specs.Buffer.{Buffer, keep_last}
 use Rattle.guards_base.specs.Seen.{Seen}
 use Rattle.flight_log.specs.Kept.{Kept}
-use Rattle.flight_log.proofs.Keeping.{kept_more}
+use Rattle.flight_log.proofs.LastKept.{kept_more}
 use Rattle.flight_log.proofs.log.FlightLog.push.Goals as goal
 
 pub returns-clause-last : goal.returns-clause-last

@@ -1,7 +1,7 @@
 use Rattle.std.proofs.Common.{◌≡◌, length, take, drop, Some, length-take, arith, subst, ◌∙◌}
 use Rattle.std.specs.Prelude.{pos, replicate}
 use Rattle.guards_model.specs.Fields.{many, word_at}
-use Rattle.icn_frames.proofs.Padding.{padded}
+use Rattle.icn_frames.proofs.FrontOfZeros.{padded}
 use Rattle.icn_frames.proofs.reading.Reader.ballot_words.Goals as goal
 
 pub returns : goal.returns

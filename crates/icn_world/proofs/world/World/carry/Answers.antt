@@ -2,7 +2,7 @@ use Rattle.std.proofs.Common.{ap, sym, ◌∙◌}
 use Rattle.guards_model.specs.Ledgers.{disturbed_by, limit_reached}
 use Rattle.guards_world.specs.Worlds.{WorldValue}
 use Rattle.slot_traffic.specs.Receiving.{receiver_numbers}
-use Rattle.icn_world.proofs.Sent.{charged_all, carry_breaks_off, carry_stops, carry_unread, carry_arrives}
+use Rattle.icn_world.proofs.SlotSent.{charged_all, carry_breaks_off, carry_stops, carry_unread, carry_arrives}
 use Rattle.icn_world.proofs.world.World.carry.Goals as goal
 
 pub returns-in-Err : goal.returns-in-Err

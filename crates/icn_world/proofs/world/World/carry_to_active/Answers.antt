@@ -1,9 +1,9 @@
 use Rattle.std.proofs.Common.{ap, ◌∙◌}
 use Rattle.guards_model.specs.Slots.{slot_index}
 use Rattle.guards_world.specs.Worlds.{WorldValue}
-use Rattle.icn_world.specs.Stages.{Inside}
+use Rattle.icn_world.specs.Stages.{IsWithinCycle}
 use Rattle.icn_world.proofs.Chaining.{from}
-use Rattle.icn_world.proofs.Settling.{carries_to}
+use Rattle.icn_world.proofs.RoundStages.{carries_to}
 use Rattle.icn_world.proofs.world.World.carry_to_active.Goals as goal
 
 pub carry-requires : goal.carry-requires
@@ -18,6 +18,6 @@ carry-requires g c =
 
 pub returns : goal.returns
 returns g c =
-    from (Inside c.args.slot (slot_index c.args.slot) (slot_index c.args.slot))
+    from (IsWithinCycle c.args.slot (slot_index c.args.slot) (slot_index c.args.slot))
     (carries_to c.args.slot c.on-members.result c.args.self.now c.args.disturbance.now c.requires.on c.requires.among
     (c.on-members.ensures ∙ ap (λ (w : WorldValue). w.switches) c.self.view_is)) c.carry.ensures

@@ -1,7 +1,7 @@
 use Rattle.guards_model.specs.declared.Slot.TheVariants.{Sweep}
-use Rattle.node_rounds.specs.Closing.{closed_value}
+use Rattle.channel_node.specs.Closing.{closed_value}
 use Rattle.icn_world.proofs.Entering.{hands_by}
-use Rattle.icn_world.proofs.Closing.{may_close_by, first_closes, some_closes, closes_by, swept_by}
+use Rattle.icn_world.proofs.CycleClosed.{may_close_by, first_closes, some_closes, closes_by, swept_by}
 use Rattle.icn_world.proofs.world.World.close.Goals as goal
 
 pub close-requires : goal.close-requires

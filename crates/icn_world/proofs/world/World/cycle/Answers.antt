@@ -1,4 +1,4 @@
-use Rattle.icn_world.proofs.Passing.{carries_up_to_stop}
+use Rattle.icn_world.proofs.CyclePassed.{carries_up_to_stop}
 use Rattle.icn_world.proofs.world.World.cycle.Goals as goal
 
 pub returns-in-Err-clause-up_to_stop : goal.returns-in-Err-clause-up_to_stop

@@ -1,6 +1,6 @@
 use Rattle.std.proofs.Common.{◌∙◌}
 use Rattle.world_traffic.specs.Reading.{got_of}
-use Rattle.icn_world.proofs.Deciding.{may_decide_then, some_answer, decides_world, settled_then}
+use Rattle.icn_world.proofs.WorldDecided.{may_decide_then, some_answer, decides_world, settled_then}
 use Rattle.icn_world.proofs.world.World.decide.Goals as goal
 
 pub decide-requires : goal.decide-requires

@@ -2,7 +2,7 @@ use Rattle.std.proofs.Common.{◌++◌}
 use Rattle.guards_model.specs.declared.Slot.TheVariants.{Round3}
 use Rattle.icn_world.specs.Settled.{IsDecided}
 use Rattle.icn_world.proofs.Chaining.{halted_by, then_step}
-use Rattle.icn_world.proofs.Settling.{may_receive, decides_rounds}
+use Rattle.icn_world.proofs.RoundStages.{may_receive, decides_rounds}
 use Rattle.icn_world.proofs.world.World.last_round.Goals as goal
 
 pub returns-in_err-arrived : goal.returns-in_err-arrived

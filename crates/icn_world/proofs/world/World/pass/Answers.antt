@@ -1,6 +1,6 @@
 use Rattle.std.proofs.Common.{◌∙◌}
 use Rattle.std.proofs.lemmas.Result.{err_from_is_err_and}
-use Rattle.icn_world.proofs.Passing.{settle_halts, may_work, work_fails, may_vote, vote_halts, may_restore, restore_halts, may_end, passes}
+use Rattle.icn_world.proofs.CyclePassed.{settle_halts, may_work, work_fails, may_vote, vote_halts, may_restore, restore_halts, may_end, passes}
 use Rattle.icn_world.proofs.world.World.pass.Goals as goal
 
 pub returns-in_err-reconfiguration : goal.returns-in_err-reconfiguration

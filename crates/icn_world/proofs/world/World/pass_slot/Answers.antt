@@ -1,6 +1,6 @@
 use Rattle.icn_world.specs.Settled.{MayEnter}
 use Rattle.icn_world.proofs.Chaining.{after_step}
-use Rattle.icn_world.proofs.Settling.{enters_next}
+use Rattle.icn_world.proofs.RoundStages.{enters_next}
 use Rattle.icn_world.proofs.world.World.pass_slot.Goals as goal
 
 pub carry_to_active-requires-clause-stands : goal.carry_to_active-requires-clause-stands

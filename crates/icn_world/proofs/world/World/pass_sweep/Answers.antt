@@ -1,6 +1,6 @@
 use Rattle.std.proofs.Common.{refl}
 use Rattle.guards_model.specs.declared.Slot.TheVariants.{Sweep, Final}
-use Rattle.icn_world.specs.Restored.{MayRestore, IsClosed}
+use Rattle.icn_world.specs.Restored.{MayRestore, HasClosed}
 use Rattle.icn_world.proofs.SlotPassed.{may_be_carried, carry_halts, has_arrived, handing_fails, handed}
 use Rattle.icn_world.proofs.Refilling.{may_sweep, closes}
 use Rattle.icn_world.proofs.world.World.pass_sweep.Goals as goal
@@ -26,11 +26,11 @@ pub returns-in_err-closed : goal.returns-in_err-closed
 returns-in_err-closed g c =
     handing_fails (MayRestore c.args.targets) Sweep c.args.targets c.args.self.now c.enter.new.self c.carry.new.self c.args.disturbance.now c.carry.new.disturbance _ _ c.enter.ensures.kept
     (may_sweep c.args.targets c.args.self.now c.enter.new.self c.args.disturbance.now c.enter.ensures.kept c.enter.ensures.state) c.in_ok-arrived.ensures
-    c.close.new.self c.close.ensures.kept IsClosed Final refl refl c.from_residual-in_err-closed.ensures.1
+    c.close.new.self c.close.ensures.kept HasClosed Final refl refl c.from_residual-in_err-closed.ensures.1
 
 pub returns : goal.returns
 returns g c =
     handed (MayRestore c.args.targets) Sweep c.args.targets c.args.self.now c.enter.new.self c.carry.new.self c.args.disturbance.now c.carry.new.disturbance _ _ c.enter.ensures.kept
     (may_sweep c.args.targets c.args.self.now c.enter.new.self c.args.disturbance.now c.enter.ensures.kept c.enter.ensures.state) c.in_ok-arrived.ensures
-    c.close.new.self c.close.ensures.kept IsClosed
+    c.close.new.self c.close.ensures.kept HasClosed
     (closes c.in_ok-arrived.arrived c.in_ok-closed.closed c.carry.new.self c.close.new.self c.carry.new.disturbance c.close.ensures.kept c.in_ok-closed.ensures.state c.in_ok-closed.ensures.closed)

@@ -1,6 +1,6 @@
 use Rattle.std.proofs.Common.{rules, arith}
 use Rattle.slot_traffic.specs.Receiving.{receiver_numbers}
-use Rattle.icn_world.proofs.Sent.{may_send_by, entries_few, sent_ok, sent_err}
+use Rattle.icn_world.proofs.SlotSent.{may_send_by, entries_few, sent_ok, sent_err}
 use Rattle.icn_world.proofs.world.World.send.Goals.{in-Ok, in-Err}
 use Rattle.icn_world.proofs.world.World.send.Goals as goal
 

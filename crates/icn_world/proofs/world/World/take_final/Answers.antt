@@ -2,7 +2,7 @@ use Rattle.std.proofs.Common.{◌∙◌}
 use Rattle.guards_model.specs.declared.Slot.TheVariants.{Final}
 use Rattle.icn_world.proofs.Entering.{hands_by}
 use Rattle.icn_world.proofs.Handing.{filled_by}
-use Rattle.icn_world.proofs.Taking.{taken_by}
+use Rattle.icn_world.proofs.ContentTaken.{taken_by}
 use Rattle.icn_world.proofs.world.World.take_final.Goals as goal
 
 pub returns-clause-state : goal.returns-clause-state

@@ -2,7 +2,7 @@ use Rattle.std.proofs.Common.{◌∙◌}
 use Rattle.guards_model.specs.declared.Slot.TheVariants.{Vote}
 use Rattle.icn_world.proofs.Entering.{hands_by}
 use Rattle.icn_world.proofs.Handing.{may_vote_by, voted_by}
-use Rattle.icn_world.proofs.Telling.{tells_by}
+use Rattle.icn_world.proofs.LinesTold.{tells_by}
 use Rattle.icn_world.proofs.world.World.take_votes.Goals as goal
 
 pub take_votes-requires : goal.take_votes-requires

@@ -1,5 +1,5 @@
 use Rattle.std.proofs.Common.{rules}
-use Rattle.icn_world.proofs.Working.{may_work_by, made_by, work_by}
+use Rattle.icn_world.proofs.WorldWorked.{may_work_by, made_by, work_by}
 use Rattle.icn_world.proofs.world.World.work.Goals as goal
 
 pub work-requires : goal.work-requires

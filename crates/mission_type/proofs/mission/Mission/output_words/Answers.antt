@@ -3,7 +3,7 @@ use mir.Val.{SFits}
 use Rattle.std.proofs.lemmas.Int.{to_z-of_z}
 use Rattle.std.proofs.Common.{◌≡◌, ℤ, length, ap, ◌∙◌, arith, rules}
 use Rattle.std.proofs.lemmas.List.{length-set}
-use Rattle.mission_type.proofs.Sizes.{sized}
+use Rattle.mission_type.proofs.MissionSizes.{sized}
 use Rattle.mission_type.proofs.OutputWords.{words_more}
 use Rattle.mission_type.proofs.mission.Mission.output_words.Goals as goal
 

@@ -5,8 +5,8 @@ use Rattle.guards_base.specs.Padding.{padded}
 use Rattle.guards_base.specs.Seen.{Seen}
 use Rattle.guards_model.specs.Missions.{MissionValue, row_in_turn, sensor}
 use Rattle.mission_type.specs.Parts.{in_use, rows_of}
-use Rattle.mission_type.proofs.Sizes.{sized}
-use Rattle.mission_type.proofs.SensorWords.{row_length, words_there, rows_within}
+use Rattle.mission_type.proofs.MissionSizes.{sized}
+use Rattle.mission_type.proofs.SensorRows.{row_length, words_there, rows_within}
 use Rattle.mission_type.proofs.mission.Mission.sensor.Goals as goal
 
 pub bounds-as_slice-index : goal.bounds-as_slice-index

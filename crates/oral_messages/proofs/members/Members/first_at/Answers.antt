@@ -1,4 +1,4 @@
-use Rattle.oral_messages.proofs.Tables.{one_back}
+use Rattle.oral_messages.proofs.RankedTables.{one_back}
 use Rattle.oral_messages.proofs.members.Members.first_at.Goals as goal
 
 pub returns : goal.returns

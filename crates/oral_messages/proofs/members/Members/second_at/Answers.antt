@@ -1,7 +1,7 @@
 use Rattle.std.proofs.Common.{◌-◌, ◌+◌, ◌/◌, ◌%◌, ◌∙◌, ◌∷◌, [], sym, ap, get_or}
 use Rattle.std.specs.Prelude.{nat_le}
 use Rattle.oral_messages.proofs.PathsBack.{skipped}
-use Rattle.oral_messages.proofs.Tables.{byte_is, two_back_at}
+use Rattle.oral_messages.proofs.RankedTables.{byte_is, two_back_at}
 use Rattle.oral_messages.proofs.members.Members.second_at.Goals as goal
 
 pub returns : goal.returns

@@ -4,7 +4,7 @@ use Rattle.std.proofs.lemmas.List.{length-replicate}
 use Rattle.guards_model.specs.Channels.{has}
 use Rattle.oral_messages.specs.Trees.{TreeValue}
 use Rattle.oral_messages.proofs.Levels.{first_below, source_path}
-use Rattle.oral_messages.proofs.Beginning.{begins}
+use Rattle.oral_messages.proofs.TreeBegun.{begins}
 use Rattle.oral_messages.proofs.tree.Tree.begin.Goals as goal
 
 pub index_mut-requires : goal.index_mut-requires

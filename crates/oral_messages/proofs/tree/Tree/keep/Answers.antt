@@ -5,7 +5,7 @@ use Rattle.guards_model.specs.OralMessages.{of_width}
 use Rattle.oral_messages.specs.contracts.tree.Tree.{the_view}
 use Rattle.oral_messages.specs.Trees.{TreeValue}
 use Rattle.oral_messages.proofs.Levels.{few_members}
-use Rattle.oral_messages.proofs.Kept.{IsReady, ready_from, ready_long, ready_label, labels_one, labels_two, put_first, put_second, put_third, put_nowhere_one, put_nowhere_two, among_first, among_second, second_path, third_path}
+use Rattle.oral_messages.proofs.TreeKept.{IsReady, ready_from, ready_long, ready_label, labels_one, labels_two, put_first, put_second, put_third, put_nowhere_one, put_nowhere_two, among_first, among_second, second_path, third_path}
 use Rattle.oral_messages.proofs.tree.Tree.keep.Goals as goal
 
 pub returns-then-round-eq1-clause-kept : goal.returns-then-round-eq1-clause-kept

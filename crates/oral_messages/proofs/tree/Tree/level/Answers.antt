@@ -1,5 +1,5 @@
 use Rattle.std.proofs.Common.{◌≡◌, ◌≤◌, ◌∙◌, length, ap, subst, arith}
-use Rattle.oral_messages.specs.Trees.{TreeValue, level_of}
+use Rattle.oral_messages.specs.Trees.{TreeValue, tree_level}
 use Rattle.oral_messages.proofs.Formulas.{AreSized, sizes}
 use Rattle.oral_messages.proofs.tree.Tree.level.Goals as goal
 
@@ -14,4 +14,4 @@ returns-else-round-eq2 c =
     let two = c.if-round-eq2.false in
     let last : 3 ≡ c.args.round = omega arith in
     let many : 7 ≤ length c.args.self.now.members = omega arith in
-    c.as_slice-else-round-eq2.ensures.value ∙ ap (λ (t : TreeValue). t.third) c.self.view_is ∙ h.third many ∙ ap (level_of c.args.self.now received) last
+    c.as_slice-else-round-eq2.ensures.value ∙ ap (λ (t : TreeValue). t.third) c.self.view_is ∙ h.third many ∙ ap (tree_level c.args.self.now received) last

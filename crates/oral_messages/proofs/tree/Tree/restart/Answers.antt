@@ -5,7 +5,7 @@ use Rattle.std.proofs.lemmas.Nat.{mul-le}
 use Rattle.guards_model.specs.Channels.{has}
 use Rattle.oral_messages.specs.Trees.{TreeValue}
 use Rattle.oral_messages.proofs.Levels.{first_below, source_path}
-use Rattle.oral_messages.proofs.Beginning.{begins}
+use Rattle.oral_messages.proofs.TreeBegun.{begins}
 use Rattle.oral_messages.proofs.tree.Tree.restart.Goals as goal
 
 pub first-place-requires : goal.first-place-requires

@@ -5,7 +5,7 @@ use Rattle.guards_model.specs.Settled.{SettledValue}
 use Rattle.output_gate.specs.Gates.{GateValue}
 use Rattle.output_gate.specs.Sending.{TakenValue}
 use Rattle.output_gate.specs.Exchanging.{is_third}
-use Rattle.output_gate.proofs.Settling.{exchange_moves}
+use Rattle.output_gate.proofs.WordsSettled.{exchange_moves}
 use Rattle.output_gate.proofs.gate.OutputGate.exchange.Goals as goal
 
 pub returns-clause-exchanged : goal.returns-clause-exchanged

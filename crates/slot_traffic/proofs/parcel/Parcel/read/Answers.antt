@@ -5,15 +5,15 @@ use Rattle.guards_base.specs.Seen.{Seen}
 use Rattle.guards_model.specs.Frames.{FrameValue, in_range, spelling}
 use Rattle.slot_traffic.specs.declared.piece.Reading.{Reading}
 use Rattle.slot_traffic.specs.Pieces.{spelled_by}
-use Rattle.slot_traffic.specs.Arrivals.{AreRead, IsInRange, piece_value, reading_value}
-use Rattle.slot_traffic.proofs.Reading.{both_ok}
-use Rattle.slot_traffic.proofs.Ranges.{pieces_spell}
+use Rattle.slot_traffic.specs.Arrivals.{AreRead, IsReadingInRange, piece_value, reading_value}
+use Rattle.slot_traffic.proofs.PiecesRead.{both_ok}
+use Rattle.slot_traffic.proofs.CountedInRange.{pieces_spell}
 use Rattle.slot_traffic.proofs.parcel.Parcel.read.Goals as goal
 
 pub returns : goal.returns
 returns c = rw (← c.self.view_is)
     (both_ok (λ (r : Seen Reading). (f : FrameValue) → IsTrue (in_range f) → map (reading_value f) r.items ≡ map spelled_by (map (piece_value (spelling f)) c.as_slice.result.now))
-    (λ (r : Seen Reading). AllByRecursion IsInRange r.items)
+    (λ (r : Seen Reading). AllByRecursion IsReadingInRange r.items)
     (λ (r : Seen Reading). AreRead (record { frame = c.self.inside.frame; pieces = map (piece_value (spelling c.self.inside.frame)) c.self.inside.pieces.items }) r.items)
     c.readings.result
     (λ r same range.

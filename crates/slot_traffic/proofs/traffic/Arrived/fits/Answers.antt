@@ -1,4 +1,4 @@
-use Rattle.slot_traffic.proofs.Ranges.{counted_fits}
+use Rattle.slot_traffic.proofs.CountedInRange.{counted_fits}
 use Rattle.slot_traffic.proofs.traffic.Arrived.fits.Goals as goal
 
 pub returns : goal.returns

@@ -1,7 +1,8 @@
 use Rattle.std.proofs.Common.{length, ap, ◌∙◌}
 use Rattle.std.specs.Prelude.{sum_by}
-use Rattle.slot_traffic.specs.Pieces.{ParcelValue, TrafficValue}
-use Rattle.slot_traffic.proofs.Carrying.{pieces_counted}
+use Rattle.slot_traffic.specs.Pieces.{ParcelValue}
+use Rattle.guards_model.specs.Network.{TrafficValue}
+use Rattle.slot_traffic.proofs.PieceCarriedLemmas.{pieces_counted}
 use Rattle.slot_traffic.proofs.traffic.Traffic.len.Goals as goal
 
 pub pieces_in-requires : goal.pieces_in-requires

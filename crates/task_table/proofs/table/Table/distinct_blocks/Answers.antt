@@ -10,7 +10,7 @@ use Rattle.guards_model.specs.Tasks.{WriteValue, TaskValue, writes_of, written}
 use Rattle.guards_model.specs.Missions.{row_in_turn}
 use Rattle.guards_model.specs.Expressions.{fits_or_none}
 use Rattle.context_blocks.specs.BlockSets.{blocks_where}
-use Rattle.task_table.specs.Tables.{places_of, named_tasks, names_tasks, row_at, table_writes, task_at}
+use Rattle.task_table.specs.Tables.{places_of, named_tasks, names_tasks, tasks_in_row, table_writes, nth_task}
 use Rattle.task_table.proofs.RowWrites.{blocks_in, named_writes}
 use Rattle.task_table.proofs.KeptRules.{rules as rules_of, turn_short, write_passes, set_fits_more}
 use Rattle.task_table.proofs.TableRows.{row_count, named_at, row_passes, place_there, named_task, writes_in_turn, turn_names}

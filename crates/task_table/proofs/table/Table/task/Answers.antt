@@ -10,7 +10,7 @@ use Rattle.guards_model.specs.Tasks.{WriteValue, TaskValue, writes_of, written}
 use Rattle.guards_model.specs.Missions.{row_in_turn}
 use Rattle.guards_model.specs.Expressions.{fits_or_none}
 use Rattle.context_blocks.specs.BlockSets.{blocks_where}
-use Rattle.task_table.specs.Tables.{places_of, named_tasks, names_tasks, row_at, table_writes, task_at}
+use Rattle.task_table.specs.Tables.{places_of, named_tasks, names_tasks, tasks_in_row, table_writes, nth_task}
 use Rattle.task_table.proofs.RowWrites.{blocks_in, named_writes}
 use Rattle.task_table.proofs.KeptRules.{rules as rules_of, turn_short, write_passes, set_fits_more}
 use Rattle.task_table.proofs.TableRows.{row_count, named_at, row_passes, place_there, named_task, writes_in_turn, turn_names}
@@ -20,8 +20,8 @@ pub get-number-requires : goal.get-number-requires
 get-number-requires c =
     let tasks = c.self.inside.tasks.items in
     let rows = c.self.inside.rows.items in
-    let size : length (row_at c.args.self.now.rows c.args.row) ≡ length c.get.result.now.items =
-    sym (ap (λ t. length (row_at t.rows c.args.row)) c.self.view_is) ∙ ap length (named_at tasks rows c.args.row c.get.result.now c.get.ensures) ∙ length-map c.get.result.now.items (task_at tasks) in
+    let size : length (tasks_in_row c.args.self.now.rows c.args.row) ≡ length c.get.result.now.items =
+    sym (ap (λ t. length (tasks_in_row t.rows c.args.row)) c.self.view_is) ∙ ap length (named_at tasks rows c.args.row c.get.result.now c.get.ensures) ∙ length-map c.get.result.now.items (nth_task tasks) in
     omega (arith, size, c.requires.place)
 
 pub get-requires-2 : goal.get-requires-2
@@ -35,6 +35,6 @@ pub returns : goal.returns
 returns c =
     let tasks = c.self.inside.tasks.items in
     let rows = c.self.inside.rows.items in
-    sym (ap (λ t. slice_get (row_at t.rows c.args.row) c.args.place) c.self.view_is)
+    sym (ap (λ t. slice_get (tasks_in_row t.rows c.args.row) c.args.place) c.self.view_is)
     ∙ ap (λ ts. slice_get ts c.args.place) (named_at tasks rows c.args.row c.get.result.now c.get.ensures)
     ∙ named_task tasks c.get.result.now.items c.args.place c.get-number.result.now c.get-2.result.now c.get-number.ensures c.get-2.ensures

@@ -7,7 +7,7 @@ use Rattle.guards_model.specs.Diagnosis.{counts_of}
 use Rattle.guards_model.specs.Missions.{cycle_writes, output_words}
 use Rattle.guards_model.specs.Tasks.{whole}
 use Rattle.guards_audit.specs.Tests.{same_votes}
-use Rattle.guards_audit.specs.Told.{counts_told, next_number}
+use Rattle.guards_audit.specs.Told.{counts_told, next_cycle_number}
 use Rattle.told_cycles.specs.Standing.{shown_in}
 use Rattle.told_cycles.proofs.ChannelLemmas.{amid_first, amid_none, base_at}
 use Rattle.told_cycles.proofs.auditor.Auditor.first_fits.Goals as goal
@@ -19,7 +19,7 @@ returns-clause-fits g c =
     let line = c.args.line.now in
     λ told r h e.
     let l = shown_in M line in
-    let n = next_number told in
+    let n = next_cycle_number told in
     let active = h.knows.active ∙ sym h.part.active in
     let judged = c.within.ensures ∙ (λ i. list_all (has (active i)) (c.judged_of-judged.ensures i)) in
     let base = counts_told M told in
@@ -39,7 +39,7 @@ returns-clause-context g c =
     let a = c.args.self.now in
     λ told r h e.
     let l = shown_in M c.args.line.now in
-    let n = next_number told in
+    let n = next_cycle_number told in
     let context = c.run_line.ensures.value ∙ ap (λ k. whole (cycle_writes M k) a.context k l.inputs) h.knows.done
     ∙ ap (λ (x : ContextValue). whole (cycle_writes M n) x n l.inputs) (h.knows.context ∙ amid_none M told r l e) ∙ sym (amid_first M told r l e) in
     ap (λ (x : ContextValue). record a { context = x }) context

@@ -1,7 +1,7 @@
 use Rattle.std.proofs.Common.{◌==◌, ◌&&◌, map, ap, sym, ◌∙◌}
 use Rattle.guards_model.specs.Texts.{LineValue}
 use Rattle.guards_model.proofs.ListTests.{any-map}
-use Rattle.report_lines.specs.Lines.{is_empty}
+use Rattle.guards_audit.specs.Lines.{is_empty}
 use Rattle.guards_audit.specs.Tests.{comes_next}
 use Rattle.told_cycles.proofs.FitLemmas.{none_traced}
 use Rattle.told_cycles.proofs.auditor.Auditor.line_comes_next.Goals as goal

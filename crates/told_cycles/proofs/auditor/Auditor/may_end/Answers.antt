@@ -3,7 +3,7 @@ use Rattle.std.specs.Prelude.{nat_le, take}
 use Rattle.std.specs.List.{list_all}
 use Rattle.guards_model.specs.Channels.{ChannelSet, has, place_or, without}
 use Rattle.guards_model.specs.Texts.{LineValue}
-use Rattle.report_lines.specs.Lines.{is_empty}
+use Rattle.guards_audit.specs.Lines.{is_empty}
 use Rattle.guards_audit.specs.Tests.{all_traced, removed_fits, stays_rightly}
 use Rattle.told_cycles.proofs.ChannelLemmas.{none_before}
 use Rattle.told_cycles.proofs.EndLemmas.{first_is, traced_all}

@@ -1,5 +1,5 @@
 use Rattle.std.proofs.Common.{[], refl, subst}
-use Rattle.past_sweeps.specs.Sweeping.{SweepsFor}
+use Rattle.told_cycles.specs.Sweeping.{SweepsFor}
 use Rattle.told_cycles.proofs.StandLemmas.{no_some, zero_at}
 use Rattle.told_cycles.proofs.auditor.Auditor.new.Goals as goal
 

@@ -1,7 +1,7 @@
 use Rattle.std.proofs.Common.{None, refl, ap, ◌∙◌, arith}
 use Rattle.guards_model.specs.Records.{transfer_of_pair}
 use Rattle.guards_model.specs.Transfers.{planned_blocks}
-use Rattle.guards_audit.specs.Told.{next_number}
+use Rattle.guards_audit.specs.Told.{next_cycle_number}
 use Rattle.told_cycles.specs.declared.auditor.Place.TheVariants as at
 use Rattle.told_cycles.proofs.OpenLemmas.{begins, sweep_low}
 use Rattle.told_cycles.proofs.StandLemmas.{opens}
@@ -10,17 +10,17 @@ use Rattle.told_cycles.proofs.auditor.Auditor.open.Goals as goal
 pub plan-plan-requires-clause-few : goal.plan-plan-requires-clause-few
 plan-plan-requires-clause-few c =
     let k = c.requires.1.sweeps.stand in
-    let after = c.restart_if.ensures c.args.mission.now.rules.blocks (next_number c.requires.0) c.requires.1.sweeps.cycles k in
+    let after = c.restart_if.ensures c.args.mission.now.rules.blocks (next_cycle_number c.requires.0) c.requires.1.sweeps.cycles k in
     omega (arith, after.size, after.few)
 
 pub plan-plan-requires-clause-low : goal.plan-plan-requires-clause-low
 plan-plan-requires-clause-low c =
     let k = c.requires.1.sweeps.stand in
-    let after = c.restart_if.ensures c.args.mission.now.rules.blocks (next_number c.requires.0) c.requires.1.sweeps.cycles k in
+    let after = c.restart_if.ensures c.args.mission.now.rules.blocks (next_cycle_number c.requires.0) c.requires.1.sweeps.cycles k in
     omega (arith, after.size, after.low)
 
 pub plan-plan-requires-clause-room : goal.plan-plan-requires-clause-room
-plan-plan-requires-clause-room c = omega (arith, c.sweep_of.ensures, sweep_low c.args.mission.now (transfer_of_pair c.args.transfer) c.is_mission.ensures)
+plan-plan-requires-clause-room c = omega (arith, c.sweep_of.ensures, sweep_low c.args.mission.now (transfer_of_pair c.args.transfer) c.prove_mission.ensures)
 
 pub returns : goal.returns
 returns c =

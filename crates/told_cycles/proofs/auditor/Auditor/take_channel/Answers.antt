@@ -4,7 +4,7 @@ use Rattle.guards_model.specs.Channels.{union}
 use Rattle.guards_model.proofs.BoolTests.{and_true, second_false}
 use Rattle.guards_audit.specs.Consistency as place
 use Rattle.guards_model.specs.Texts.{LineValue}
-use Rattle.report_lines.specs.Lines.{is_empty}
+use Rattle.guards_audit.specs.Lines.{is_empty}
 use Rattle.guards_audit.specs.Tests.{comes_next, says_fit}
 use Rattle.guards_audit.specs.Told.{with_line}
 use Rattle.told_cycles.specs.declared.auditor.Auditor.{Auditor}
@@ -29,7 +29,7 @@ returns-then-not-line_comes_next g c =
 pub says_fit-requires : goal.says_fit-requires
 says_fit-requires g c =
     let k = amid_somewhere c.args.mission.now c.requires.0 c.args.self.now c.requires.1 (sym c.is_amid.ensures ∙ c.if-not-is_amid.false) in
-    ap length k.2.knows.context ∙ amid_length c.args.mission.now k.0 k.1 ∙ c.know_sizes.ensures.initial
+    ap length k.2.knows.context ∙ amid_length c.args.mission.now k.0 k.1 ∙ c.prove_sizes.ensures.initial
 
 pub returns-then-not-says_fit : goal.returns-then-not-says_fit
 returns-then-not-says_fit g c =
@@ -51,5 +51,5 @@ returns g c =
     ∙ ap (λ (m : Auditor). record m { part = record m.part { lined = union m.part.lined (line.channel ∷ []); first = Some (unwrap_or m.part.first line) } }) (c.says_fit.ensures.context told r k) in (
       and_true (is_empty r.traces && comes_next r.active (map (λ (l : LineValue). l.channel) r.lines) line.channel) (says_fit M told r (shown_in M line)) next says,
       subst (StandsAt M (place.amid told (with_line r (shown_in M line)))) (sym same)
-          (channel_stands M told r c.args.self.now line k c.know_sizes.ensures.seven says (context_amid M told (with_line r (shown_in M line))) (amid_is c.args.self.now.place amid) refl low),
+          (channel_stands M told r c.args.self.now line k c.prove_sizes.ensures.seven says (context_amid M told (with_line r (shown_in M line))) (amid_is c.args.self.now.place amid) refl low),
     ))

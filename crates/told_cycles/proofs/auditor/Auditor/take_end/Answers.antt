@@ -3,7 +3,7 @@ use Rattle.std.specs.Prelude.{bytes_eq}
 use Rattle.guards_model.specs.Decisions.{joined_of}
 use Rattle.guards_model.specs.Records.{transfer_of_pair}
 use Rattle.guards_model.proofs.BoolTests.{and_true, both, not_true, second_false}
-use Rattle.report_lines.specs.Lines.{is_empty}
+use Rattle.guards_audit.specs.Lines.{is_empty}
 use Rattle.guards_audit.specs.Tests.{all_traced, removed_fits, same_number}
 use Rattle.guards_audit.specs.Told.{number_remaining, rest_told}
 use Rattle.told_cycles.specs.declared.auditor.Auditor.{Auditor}
@@ -47,12 +47,12 @@ returns-then-not-rest_fits g c =
 pub end-requires-clause-done : goal.end-requires-clause-done
 end-requires-clause-done g c =
     let k = amid_somewhere c.args.mission.now c.requires.0 c.args.self.now c.requires.1 (sym c.is_amid.ensures ∙ c.if-not-is_amid.false) in
-    omega (arith, ap (λ (a : Auditor). a.done) c.close_sweeps.ensures.same, k.2.knows.done, k.2.part.early, cycles_few c.args.mission.now c.is_mission.ensures)
+    omega (arith, ap (λ (a : Auditor). a.done) c.close_sweeps.ensures.same, k.2.knows.done, k.2.part.early, cycles_few c.args.mission.now c.prove_mission.ensures)
 
 pub end-requires-clause-context : goal.end-requires-clause-context
 end-requires-clause-context g c =
     let k = amid_somewhere c.args.mission.now c.requires.0 c.args.self.now c.requires.1 (sym c.is_amid.ensures ∙ c.if-not-is_amid.false) in
-    ap (λ (a : Auditor). length a.context) c.close_sweeps.ensures.same ∙ ap length k.2.knows.context ∙ amid_length c.args.mission.now k.0 k.1 ∙ c.know_sizes.ensures.initial
+    ap (λ (a : Auditor). length a.context) c.close_sweeps.ensures.same ∙ ap length k.2.knows.context ∙ amid_length c.args.mission.now k.0 k.1 ∙ c.prove_sizes.ensures.initial
 
 pub returns : goal.returns
 returns g c =

@@ -1,8 +1,0 @@
-use Rattle.acted_runs.proofs.Driving.{driven_ran, driven_short}
-use Rattle.acted_runs.proofs.driven_cycles_ran.Goals as goal
-
-pub returns-clause-whole : goal.returns-clause-whole
-returns-clause-whole g c = driven_ran g.B.Bus.may
-
-pub returns-clause-broken : goal.returns-clause-broken
-returns-clause-broken g c = driven_short g.B.Bus.may

@@ -1,3 +1,0 @@
-pub mod ActedLogs
-pub mod ActedWords
-pub mod ActedEnds

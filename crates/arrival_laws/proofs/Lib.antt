@@ -1,2 +1,0 @@
-pub mod OfRound
-pub mod Contexts

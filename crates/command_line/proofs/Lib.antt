@@ -1,0 +1,2 @@
+pub mod DigitsRead
+pub mod Spelled

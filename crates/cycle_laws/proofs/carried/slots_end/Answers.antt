@@ -1,5 +1,0 @@
-use Rattle.cycle_laws.proofs.SlotEnding.{slot_ends}
-use Rattle.cycle_laws.proofs.carried.slots_end.Goals as goal
-
-pub returns : goal.returns
-returns c = slot_ends

@@ -1,5 +1,0 @@
-use Rattle.cycle_laws.proofs.Finishing.{finishes}
-use Rattle.cycle_laws.proofs.ending.cycles_finish.Goals as goal
-
-pub returns : goal.returns
-returns c = finishes

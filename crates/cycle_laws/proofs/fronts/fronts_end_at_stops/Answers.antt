@@ -1,5 +1,0 @@
-use Rattle.cycle_laws.proofs.RunFronts.{run_front}
-use Rattle.cycle_laws.proofs.fronts.fronts_end_at_stops.Goals as goal
-
-pub returns : goal.returns
-returns c = λ M L now new steps slot w few on inside carried. run_front M L now new steps slot on w inside few carried

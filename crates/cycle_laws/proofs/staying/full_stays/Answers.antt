@@ -1,6 +1,0 @@
-use Rattle.std.proofs.Common.{arith}
-use Rattle.cycle_laws.proofs.Keeping.{full_later}
-use Rattle.cycle_laws.proofs.staying.full_stays.Goals as goal
-
-pub returns : goal.returns
-returns c = λ M L new n steps late were. full_later M L new n 4 late (omega arith) steps were

@@ -1,5 +1,0 @@
-use Rattle.cycle_laws.proofs.Following.{follows}
-use Rattle.cycle_laws.proofs.staying.later_slots_follow.Goals as goal
-
-pub returns : goal.returns
-returns c = follows

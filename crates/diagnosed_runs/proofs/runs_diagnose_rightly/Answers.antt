@@ -1,8 +1,0 @@
-use Rattle.diagnosed_runs.proofs.RanCycles.{ran_diagnoses, stopped_diagnoses}
-use Rattle.diagnosed_runs.proofs.runs_diagnose_rightly.Goals as goal
-
-pub returns-clause-ran : goal.returns-clause-ran
-returns-clause-ran c = ran_diagnoses
-
-pub returns-clause-stopped : goal.returns-clause-stopped
-returns-clause-stopped c = stopped_diagnoses

@@ -1,0 +1,3 @@
+pub mod SlotNames
+pub mod Fits
+pub mod FaultAnswers

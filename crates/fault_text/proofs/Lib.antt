@@ -1,3 +1,0 @@
-pub mod SlotNames
-pub mod Fits
-pub mod Kept

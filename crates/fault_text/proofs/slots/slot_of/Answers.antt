@@ -1,6 +1,0 @@
-use Rattle.std.proofs.Common.{sym}
-use Rattle.fault_text.proofs.SlotNames.{find_passes}
-use Rattle.fault_text.proofs.slots.slot_of.Goals as goal
-
-pub returns-in-Some-clause-among : goal.returns-in-Some-clause-among
-returns-in-Some-clause-among c = λ test all. find_passes _ test c.args.slots.now all c.in-Some.slot (sym c.in-Some.ensures)

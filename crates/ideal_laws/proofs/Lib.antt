@@ -1,3 +1,0 @@
-pub mod QuietCycles
-pub mod IdealReports
-pub mod ActedIdeals

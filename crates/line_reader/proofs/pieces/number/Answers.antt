@@ -1,6 +1,0 @@
-use Rattle.std.proofs.Common.{◌∙◌, arith}
-use Rattle.line_reader.proofs.PieceLemmas.{number_read}
-use Rattle.line_reader.proofs.pieces.number.Goals as goal
-
-pub returns-clause-read : goal.returns-clause-read
-returns-clause-read c = λ n h e. c.unwrap_or.ensures ∙ number_read 32 n c.args.text.now c.parse.result 0 h (omega arith) e c.parse.ensures.value.0

@@ -1,6 +1,0 @@
-use Rattle.std.proofs.Common.{◌≡◌, length, map, take, Some}
-use Rattle.line_reader.proofs.pieces.votes.Given as goal
-
--- the votes so far are the words
-abbrev pub invariant-loop-place : goal.invariant-loop-place
-invariant-loop-place l = (length l.votes ≡ 8) × (take l.place l.votes ≡ map (λ w. Some w) (take l.place l.words))

@@ -1,6 +1,0 @@
-use Rattle.std.proofs.Common.{◌∙◌}
-use Rattle.mission_checks.proofs.Keys.{only_known}
-use Rattle.mission_checks.proofs.checks.has_only.Goals as goal
-
-pub returns : goal.returns
-returns c = c.each_known.ensures ∙ only_known c.args.known.now c.args.fields.now

@@ -1,9 +1,0 @@
--- What an answer unfolds to judge a literal text.
-use Rattle.std.specs.Prelude.{⊤}
-use Rattle.guards_runs.proofs.OnLiterals.{run_on_literals}
-use Rattle.report_lines.specs.Reading.{line_of}
-use Rattle.guards_audit.specs.Verdicts.{place_after, first_bad}
-
-unfoldable pub judged_on_literals : ⊤
-unfolding run_on_literals line_of place_after first_bad
-judged_on_literals = tt

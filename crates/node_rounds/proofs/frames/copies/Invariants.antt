@@ -1,7 +1,0 @@
-use Rattle.std.proofs.Common.{◌≡◌, take}
-use Rattle.std.specs.Prelude.{map}
-use Rattle.guards_runs.specs.Due.{copy_from}
-use Rattle.node_rounds.proofs.frames.copies.Given as goal
-
-abbrev pub invariant-loop-block : goal.invariant-loop-block
-invariant-loop-block l = l.list.items ≡ map (copy_from l.context) (take l.block-index l.blocks)

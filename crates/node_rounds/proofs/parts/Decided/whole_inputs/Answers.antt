@@ -1,9 +1,0 @@
-use Rattle.std.proofs.Common.{◌≡◌, ◌-◌, ◌++◌, pos, length, replicate, subst}
-use Rattle.guards_nodes.specs.NodeStates.{DecidedValue}
-use Rattle.node_rounds.proofs.Fitting.{padded_inputs}
-use Rattle.node_rounds.proofs.parts.Decided.whole_inputs.Goals as goal
-
-pub returns : goal.returns
-returns c =
-    subst (λ (d : DecidedValue). c.self.inside.inputs ≡ d.inputs ++ replicate (4 - length d.inputs) (pos 0)) c.self.view_is
-    (padded_inputs c.self.inside.width c.self.inside.inputs c.self.invariant.narrow c.self.invariant.four c.self.invariant.padded)

@@ -1,8 +1,0 @@
-use Rattle.control_state.proofs.SevenFlags.{few_members}
-use Rattle.node_rounds.proofs.TreeLevels.{begun_tree}
-use Rattle.node_rounds.proofs.tree.RoundTree.begin.Goals as goal
-
-pub returns : goal.returns
-returns c =
-    begun_tree c.in_ok-begin.field-0 c.args.active c.args.me c.args.width c.args.own
-    (few_members c.args.active c.flags.ensures.members) c.in_ok-begin.ensures

@@ -1,4 +1,0 @@
-pub mod Trees
-pub mod Fits
-pub mod Lines
-pub mod Closing

@@ -1,7 +1,0 @@
-use Rattle.std.proofs.Common.{◌≡◌, ◌≤◌, filter, length}
-use Rattle.std.specs.List.{range_with_len}
-use Rattle.past_sweeps.specs.Sweeping.{is_flagged}
-use Rattle.past_sweeps.proofs.sweeps.count.Given as goal
-
-abbrev pub invariant-loop-block : goal.invariant-loop-block
-invariant-loop-block l = record { some : l.count ≡ length (filter (is_flagged l.flags) (range_with_len 0 l.block)); most : l.count ≤ l.block }

@@ -1,7 +1,0 @@
-use Rattle.std.proofs.Common.{◌≡◌, ◌-◌, ◌++◌, take, filter}
-use Rattle.std.specs.List.{range_with_len}
-use Rattle.past_sweeps.specs.Sweeping.{is_flagged}
-use Rattle.past_sweeps.proofs.sweeps.gather.Given as goal
-
-abbrev pub invariant-loop-block : goal.invariant-loop-block
-invariant-loop-block l = l.plan.items ≡ take l.most (l.initial.plan.items ++ filter (is_flagged l.flags) (range_with_len l.from (l.block - l.from)))

@@ -1,2 +1,0 @@
-pub mod CycleTexts
-pub mod RunsBack

@@ -1,4 +1,0 @@
-pub mod PrintedLines
-pub mod ReadBack
-pub mod LinesBack
-pub mod ReportsBack

@@ -1,8 +1,0 @@
-use Rattle.report_lines.proofs.ReportsBack.{report_back, report_is}
-use Rattle.report_lines.proofs.reports_are_read.Goals as goal
-
-pub returns-clause-back : goal.returns-clause-back
-returns-clause-back c = report_back
-
-pub returns-clause-spelled : goal.returns-clause-spelled
-returns-clause-spelled c = report_is

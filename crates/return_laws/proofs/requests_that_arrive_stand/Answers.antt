@@ -1,5 +1,0 @@
-use Rattle.return_laws.proofs.Asked.{asks_next}
-use Rattle.return_laws.proofs.requests_that_arrive_stand.Goals as goal
-
-pub returns : goal.returns
-returns c M L n m q mission early run soon low joins alone heard new = asks_next M L n mission early run q m soon low joins alone heard new

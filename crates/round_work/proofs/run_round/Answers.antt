@@ -1,5 +1,0 @@
-use Rattle.sweep_round.proofs.Endings.{some_ended}
-use Rattle.round_work.proofs.run_round.Goals as goal
-
-pub returns-clause-ended : goal.returns-clause-ended
-returns-clause-ended g c = some_ended c.args.round c.args.crew c.work_ended.result.0 c.work_ended.ensures.ended

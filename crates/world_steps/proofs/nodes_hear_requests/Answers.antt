@@ -1,5 +1,0 @@
-use Rattle.world_steps.proofs.SlotNodes.{all_heard}
-use Rattle.world_steps.proofs.nodes_hear_requests.Goals as goal
-
-pub returns : goal.returns
-returns c = λ M L n steps got mission are. all_heard M L n steps got mission are

@@ -1,8 +1,0 @@
-use Rattle.world_steps.proofs.OpenNodes.{all_opened, all_entered}
-use Rattle.world_steps.proofs.nodes_open_cycle.Goals as goal
-
-pub returns-clause-opened : goal.returns-clause-opened
-returns-clause-opened c = λ M L n steps nodes joining mission h joins. all_opened M L n mission steps nodes joining h joins
-
-pub returns-clause-entered : goal.returns-clause-entered
-returns-clause-entered c = λ M L n steps mission. all_entered M L n mission steps

@@ -1,5 +1,0 @@
-use Rattle.world_steps.proofs.SlotNodes.{all_filled}
-use Rattle.world_steps.proofs.nodes_take_finals.Goals as goal
-
-pub returns : goal.returns
-returns c = λ M L n steps got mission are. all_filled M L n steps got mission are
