@@ -145,7 +145,8 @@ def documents():
     """The documents of mission_rows with the answer that its row wants: rows OLD|NEW|..|ANSWER, in length_rows OLD|FRONT|ONE|COUNT|BACK|ANSWER."""
     folder = ROOT + "/crates/mission_rows/src/"
     mission = literal(re.search(r'MISSION: &str = "((?:[^"\\]|\\.)*)"', content(folder + "answers.rt"))[1])
-    for name in sorted(os.path.basename(path)[:-3] for path in glob.glob(folder + "*_rows.rt")):
+    # script_rows has entries of scripts, no documents.
+    for name in sorted({os.path.basename(path)[:-3] for path in glob.glob(folder + "*_rows.rt")} - {"script_rows"}):
         for table in re.findall(r'const (?!HEAD)[A-Z_]+: &str =\s+"((?:[^"\\]|\\.)*)"', content(f"{folder}{name}.rt")):
             for row in literal(table).split("\n")[:-1]:
                 *changes, want = row.replace("¶", "\n").split("|")

@@ -1,0 +1,3 @@
+pub mod LineSteps
+mod Entries
+mod WordSets

@@ -1,0 +1,4 @@
+pub mod LineLists
+pub mod LineTexts
+pub mod ScriptLines
+pub mod WordLines

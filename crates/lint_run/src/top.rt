@@ -1,0 +1,111 @@
+//! The top call: all that the program does.
+ghost use Rattle.std.specs.Prelude.{◌≡◌, ℕ, Bool, List};
+ghost use Rattle.guards_io.specs.Stream.{source_view};
+ghost use Rattle.ideal_run.specs.Writes.{SinkView, Writes, sink_view};
+ghost use Rattle.lint_run.specs.Outcomes.{LintCompletes, LintOutcome, LintsBytes, LintsMission, RefusesWith, TellsLines, lint_usage};
+
+use crate::status::LintStatus;
+use guards_base::Words;
+use guards_io::{Sink, Source};
+use ideal_run::{WriteStop, put};
+use lint_lines::{lines_text, warn};
+use mission_lint::find_lines;
+use mission_run::{Status, read_mission};
+use mission_type::Mission;
+use std::alloc::Global;
+use world_run::put_line;
+
+/// The line of wrong words.
+#[tactic(auto, unfolding(crate::specs::Outcomes::lint_usage))]
+fn usage_line() -> &'static str
+    ensures { result.now ≡ lint_usage }
+{
+    "usage: guards_lint\n"
+}
+
+/// The status of lines that were written, some of which warn or none.
+fn told(written: Result<(), WriteStop>, warned: bool) -> LintStatus
+    ensures { (text : List ℕ) (old new : SinkView) → Writes old new text written →
+        TellsLines text warned old new result }
+{
+    match written {
+        Ok(()) => match warned {
+            true => LintStatus::Warned,
+            false => LintStatus::Clean,
+        },
+        Err(WriteStop::Failed) => LintStatus::Stopped(Status::WriteFault),
+        Err(WriteStop::Memory) => LintStatus::Stopped(Status::NoMemory),
+    }
+}
+
+/// Writes the lines on a mission.
+#[tactic(auto, using(ideal_run::proofs::WritesLemmas::nothing_written))]
+fn tell<K: Sink>(alloc: Global, mission: &Mission, out: &mut K) -> LintStatus
+    ensures { LintsMission mission.now (sink_view (K.written out.old) (K.faults out.old))
+        (sink_view (K.written out.new) (K.faults out.new)) result }
+{
+    let Ok(lines) = find_lines(alloc, mission) else {
+        return LintStatus::Stopped(Status::NoMemory);
+    };
+    let Ok(text) = lines_text(alloc, lines.as_slice()) else {
+        return LintStatus::Stopped(Status::NoMemory);
+    };
+    let written = put(out, text.as_str());
+    told(written, warn(lines.as_slice()))
+}
+
+/// Reads a mission, and writes the lines on it.
+fn read_and_tell<S: Source, K: Sink>(alloc: Global, src: &mut S, out: &mut K) -> LintStatus
+    ensures { LintsBytes
+        (source_view (S.left src.old) (S.faults src.old))
+        (source_view (S.left src.new) (S.faults src.new))
+        (sink_view (K.written out.old) (K.faults out.old))
+        (sink_view (K.written out.new) (K.faults out.new)) result }
+{
+    match read_mission(alloc, src, out) {
+        Ok(mission) => tell(alloc, &mission, out),
+        Err(status) => LintStatus::Stopped(status),
+    }
+}
+
+fn carry_out<S: Source, K: Sink>(
+    alloc: Global,
+    words: &Words,
+    src: &mut S,
+    out: &mut K,
+) -> LintStatus
+    ensures { LintOutcome words.now.items
+        (source_view (S.left src.old) (S.faults src.old))
+        (source_view (S.left src.new) (S.faults src.new))
+        (sink_view (K.written out.old) (K.faults out.old))
+        (sink_view (K.written out.new) (K.faults out.new)) result }
+{
+    if words.len() == 0 {
+        read_and_tell(alloc, src, out)
+    } else {
+        put_line(out, usage_line());
+        LintStatus::Stopped(Status::Usage)
+    }
+}
+
+/// Does all that the program does: without words it reads a mission, and writes a line for each thing that its
+/// definition tells of it. The status says whether one of them warns.
+pub fn lint<S: Source, K: Sink>(
+    alloc: Global,
+    words: &Words,
+    src: &mut S,
+    out: &mut K,
+) -> LintStatus
+    ensures outcome { LintOutcome words.now.items
+        (source_view (S.left src.old) (S.faults src.old))
+        (source_view (S.left src.new) (S.faults src.new))
+        (sink_view (K.written out.old) (K.faults out.old))
+        (sink_view (K.written out.new) (K.faults out.new)) result }
+    ensures completes { LintCompletes words.now.items
+        (source_view (S.left src.old) (S.faults src.old))
+        (source_view (S.left src.new) (S.faults src.new))
+        (sink_view (K.written out.old) (K.faults out.old))
+        (sink_view (K.written out.new) (K.faults out.new)) result }
+{
+    carry_out(alloc, words, src, out)
+}

@@ -1,0 +1,4 @@
+mod Length
+mod Peaks
+mod FirstNumber
+mod LeastPeriod
