@@ -1,5 +1,5 @@
 //! A running channel.
-ghost use Rattle.std.specs.Prelude.{◌≡◌, ◌<◌, ◌≤◌, true, length, slice_set, Option, Some, None, option_map};
+ghost use Rattle.std.specs.Prelude.{◌≡◌, ◌<◌, ◌≤◌, true, length, slice_set, Option, Some, None};
 ghost use Rattle.guards_model.specs.Controls.{first_control, transfer_in};
 ghost use Rattle.guards_model.specs.Decisions.{request_code};
 ghost use Rattle.guards_model.specs.Missions.{is_rules};
@@ -34,7 +34,17 @@ impl Model for Running {
 
     ghost Value = { RunningValue };
 
-    ghost view = { λ r. record { held = record { context = r.context; control = r.control; accused = r.accused; heard = r.heard }; progress = record { hearing = r.hearing; tree = r.tree; decided = r.decided; worked = r.worked; closed = r.closed } } };
+    ghost view = { λ r. record {
+      held =
+          record { context = r.context; control = r.control; accused = r.accused; heard = r.heard };
+      progress = record {
+        hearing = r.hearing;
+        tree = r.tree;
+        decided = r.decided;
+        worked = r.worked;
+        closed = r.closed;
+      };
+    } };
 
     ghost invariant = { λ r. AreRunningParts (length r.context) r.control.sweeping r.closed r.heard r.hearing };
 }

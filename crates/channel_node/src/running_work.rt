@@ -1,8 +1,8 @@
 //! The work of a cycle.
-ghost use Rattle.std.specs.Prelude.{◌≡◌, true, length, Some, None, IfOk, IfErr, option_map};
+ghost use Rattle.std.specs.Prelude.{◌≡◌, length, Some, None, IfOk, IfErr, option_map};
 ghost use Rattle.std.specs.Option.{option_copied};
-ghost use Rattle.guards_model.specs.Missions.{is_rules, cycle_writes};
-ghost use Rattle.guards_nodes.specs.NodeStates.{DecidedValue, WorkedValue};
+ghost use Rattle.guards_model.specs.Missions.{cycle_writes};
+ghost use Rattle.guards_nodes.specs.NodeStates.{DecidedValue};
 ghost use Rattle.guards_nodes.specs.NodeSteps.{HasWorked};
 ghost use Rattle.sweep_round.specs.Trails.{trail_cycle, trail_steps};
 
@@ -29,8 +29,8 @@ impl Running {
         }
     }
 
-    /// Does the writes of a cycle and the copies of its plan, by two workers under the lock, in whatever order. For want
-    /// of memory the channel comes back as it was.
+    /// Does the writes of a cycle and the copies of its plan, by two workers under the lock, in whatever order. For
+    /// want of memory the channel comes back as it was.
     pub fn work<C: Calls + Sync, G: Gate, R: Threads + Wait + Sync>(
         self,
         rt: &R,
@@ -43,7 +43,8 @@ impl Running {
     ) -> Result<Running, Refused<Running>>
         requires blocks { length self.context ≡ mission.now.rules.blocks }
         requires decided { (d : DecidedValue) × (self.decided ≡ Some d) }
-        ensures worked { IfOk result (λ new. HasWorked mission.now.rules (cycle_writes mission.now cycle) cycle self new) }
+        ensures worked { IfOk result
+            (λ new. HasWorked mission.now.rules (cycle_writes mission.now cycle) cycle self new) }
         ensures blocks { IfOk result (λ new. length new.context ≡ length self.context) }
         ensures refused { IfErr result (λ e. e.value ≡ self) }
     {

@@ -142,7 +142,8 @@ fn has_only(known: &[&str], fields: &Table) -> bool
 }
 
 fn each_known(known: &[&str], fields: &Table) -> bool
-    ensures { result ≡ list_all (λ key. list_any (λ name. bytes_eq (string_bytes key) name.now) known.now) (keys fields.now) }
+    ensures { result ≡ list_all (λ key. list_any (λ name. bytes_eq (string_bytes key) name.now) known.now)
+        (keys fields.now) }
 {
     fields.keys().all(|key| is_known(known, key.as_str()))
 }
@@ -153,6 +154,7 @@ fn is_known(known: &[&str], key: &str) -> bool
     known.iter().any(|name| key == *name)
 }
 
+/// The integer of a value between two bounds, or the check that fails.
 pub fn integer_in(
     alloc: Global,
     value: &Value,
@@ -172,6 +174,7 @@ pub fn integer_in(
     }
 }
 
+/// The text that a value is, or the check that fails.
 pub fn text_of<'a>(alloc: Global, value: &'a Value, path: &str) -> Result<&'a str, ReadFault>
     ensures { Gives (λ text. text.now) result (text_of path.now (view value.now)) }
 {
@@ -181,6 +184,7 @@ pub fn text_of<'a>(alloc: Global, value: &'a Value, path: &str) -> Result<&'a st
     }
 }
 
+/// The table that a value is, or the check that fails.
 pub fn table_of<'a>(alloc: Global, value: &'a Value, path: &str) -> Result<&'a Table, ReadFault>
     ensures { Gives (λ fields. table_view fields.now) result (table_of path.now (view value.now)) }
 {
@@ -190,6 +194,7 @@ pub fn table_of<'a>(alloc: Global, value: &'a Value, path: &str) -> Result<&'a T
     }
 }
 
+/// The items of the array that a value is, or the check that fails.
 pub fn array_of<'a>(alloc: Global, value: &'a Value, path: &str) -> Result<&'a [Value], ReadFault>
     ensures { Gives (λ items. items_view items.now) result (array_of path.now (view value.now)) }
 {
@@ -199,6 +204,7 @@ pub fn array_of<'a>(alloc: Global, value: &'a Value, path: &str) -> Result<&'a [
     }
 }
 
+/// The integer that a value is, or the check that fails.
 pub fn integer_of(alloc: Global, value: &Value, path: &str) -> Result<i64, ReadFault>
     ensures { Gives (λ integer. integer) result (integer_of path.now (view value.now)) }
 {

@@ -3,7 +3,7 @@ use Rattle.std.specs.Prelude.{◌≡◌, ℕ, zero, suc, ◌*◌, Bool, ◌&&◌
 use Rattle.std.specs.List.{AllZip, list_any}
 use Rattle.guards_model.specs.declared.Slot.TheVariants.{Switch, Output}
 use Rattle.guards_model.specs.Slots.{same_slot}
-use Rattle.guards_model.specs.Channels.{Channel, ChannelSet, has, place_or, by_channel, channels_where}
+use Rattle.guards_model.specs.Channels.{Channel, ChannelSet, has, place_or, by_channel}
 use Rattle.guards_model.specs.Voting.{Ballots}
 use Rattle.guards_model.specs.Missions.{MissionValue, ActuatorValue, output_words}
 use Rattle.guards_model.specs.Frames.{spelling}
@@ -34,8 +34,8 @@ outputs_after version steps start L (suc c) =
 abbrev pub words_after : MissionValue → ActuatorValue → Log → ℕ → List ℤ
 words_after M a L n = outputs_after M.rules.version a.steps a.start L n
 
--- the words of an actuator after so many cycles that did not stop: each moved by each cycle towards the output words of the
--- ideal context
+-- the words of an actuator after so many cycles that did not stop: each moved by each cycle towards the output words of
+-- the ideal context
 abbrev pub ideal_outputs : MissionValue → List ℤ → List ℤ → Log → ℕ → List ℤ
 ideal_outputs M steps start L zero = start
 ideal_outputs M steps start L (suc c) =
@@ -54,7 +54,8 @@ pub record IsOutputDue (version c : ℕ) (q : Channel) (words : List ℤ) (entry
 -- the output entries of a cycle: each channel that is active and up at its end sends the words of its vote
 abbrev pub AreOutputsDue : ℕ → ℕ → Cycle → Log → Type 0
 AreOutputsDue version c e now =
-    AllZip (λ q entry. IsOutputDue version c q (voted_words (place_or e.voted q [])) entry) (channels_running_in Switch e) now
+    AllZip (λ q entry. IsOutputDue version c q (voted_words (place_or e.voted q [])) entry)
+    (channels_running_in Switch e) now
 
 -- ---- the stop
 
@@ -66,10 +67,6 @@ is_output_charge c q e = ((e.cycle == c && same_slot e.slot Output) && e.from ==
 abbrev pub output_disturbed : ℕ → Cycle → Log → ChannelSet
 output_disturbed c e L =
     filter (λ q. has (disturbed_channels c e Switch) q || list_any (is_output_charge c q) L) e.active
-
--- those whose output entry was not delivered as sent
-abbrev pub output_charged : ℕ → Log → ChannelSet
-output_charged c L = channels_where (λ q. list_any (is_output_charge c q) L)
 
 -- the run stops where these are a third of the active channels or more
 abbrev pub output_halts : ℕ → Cycle → Log → Bool

@@ -1,5 +1,5 @@
 //! The bus that delivers what was sent, except where a rule fits.
-ghost use Rattle.std.specs.Prelude.{◌≡◌, [], IfOk, OnOk, OnErr, option_map};
+ghost use Rattle.std.specs.Prelude.{◌≡◌, [], IfOk, option_map};
 ghost use Rattle.guards_model.specs.ScriptedBus.{delivered_by};
 ghost use Rattle.icn_bus.specs.Deliveries.{delivery_value};
 
@@ -19,9 +19,9 @@ pub struct ScriptBus {
 }
 
 impl Model for ScriptBus {
-    ghost use Rattle.icn_bus.specs.Buses.{ScriptBusValue};
+    ghost use Rattle.guards_model.specs.Network.{BusValue};
 
-    ghost Value = { ScriptBusValue };
+    ghost Value = { BusValue };
 
     ghost view = { λ bus. record { log = bus.log.items; script = bus.rules } };
 }
@@ -57,7 +57,8 @@ fn delivered_of(
     to: u8,
     sent: &[u8],
 ) -> Result<Option<Bytes>, AllocError>
-    ensures { IfOk result (λ piece. option_map (λ bytes. bytes.items) piece ≡ delivered_by rules.now cycle slot from to sent.now) }
+    ensures { IfOk result (λ piece. option_map (λ bytes. bytes.items) piece
+        ≡ delivered_by rules.now cycle slot from to sent.now) }
 {
     match rules.first_fitting(cycle, slot, from, to) {
         None => Ok(Some(Bytes::from_slice(alloc, sent)?)),
@@ -75,8 +76,10 @@ fn passed_of(
     to: u8,
     sent: &[u8],
 ) -> Result<(Option<Bytes>, Delivery), AllocError>
-    ensures log { IfOk result (λ r. option_map (λ bytes. bytes.items) r.0 ≡ delivered_by rules.now cycle slot from to sent.now) }
-    ensures answer { IfOk result (λ r. delivery_value sent.now r.1 ≡ delivered_by rules.now cycle slot from to sent.now) }
+    ensures log { IfOk result
+        (λ r. option_map (λ bytes. bytes.items) r.0 ≡ delivered_by rules.now cycle slot from to sent.now) }
+    ensures answer { IfOk result
+        (λ r. delivery_value sent.now r.1 ≡ delivered_by rules.now cycle slot from to sent.now) }
 {
     match rules.first_fitting(cycle, slot, from, to) {
         None => Ok((Some(Bytes::from_slice(alloc, sent)?), Delivery::AsSent)),
@@ -94,9 +97,7 @@ fn passed_of(
 impl Bus for ScriptBus {
     ghost use Rattle.guards_model.specs.ScriptedBus.{IsScripted};
 
-    ghost log = { λ bus. bus.log };
-
-    ghost script = { λ bus. bus.script };
+    ghost seen = { λ bus. bus };
 
     ghost may = { IsScripted };
 

@@ -1,10 +1,10 @@
 -- What a pass of one cycle does. This project's own.
 use Rattle.std.specs.Prelude.{◌≡◌, ◌<◌, ◌+◌, List, length, Some, None, Result, Ok, Err}
 use Rattle.guards_model.specs.BusRules.{RuleValue}
-use Rattle.guards_model.specs.Network.{EntryValue, Log}
+use Rattle.guards_model.specs.Network.{EntryValue, Log, BusValue}
 use Rattle.guards_model.specs.Texts.{RecordValue}
 use Rattle.guards_world.specs.Worlds.{WorldValue, HaltValue, no_memory, StandsForWorld}
-use Rattle.guards_world.specs.WorldCycle.{BusValue, Carries, Ends}
+use Rattle.guards_world.specs.WorldCycle.{Carries, Ends}
 use Rattle.world_laws.specs.Fronts.{IsUpToStop}
 
 -- a world that may pass a cycle, by a log that stands for it
@@ -18,8 +18,8 @@ abbrev pub keeping_halt : {A : Type 0} → Result A HaltValue → WorldValue →
 keeping_halt (Ok x) w = w
 keeping_halt (Err halt) w = record w { spent = Some halt }
 
--- The entries were carried, and the cycle ended as the answer says, once the world keeps its halt. Where memory ran out, none
--- were carried after a stop.
+-- The entries were carried, and the cycle ended as the answer says, once the world keeps its halt. Where memory ran
+-- out, none were carried after a stop.
 pub record Passes (may : List RuleValue → EntryValue → Type 0) (old : WorldValue) (L : Log) (bus : BusValue)
     (result : Result RecordValue HaltValue) (new : WorldValue) (bus_after : BusValue) : Type 0 where
   pub now : Log

@@ -58,9 +58,10 @@ impl World {
         slot: Slot,
         to: Receivers,
     ) -> Result<Traffic, AllocError>
-        requires { (L : Log) × (now : Log) × (steps : Steps) × (d : DisturbanceValue) × MayCarry slot (receiver_numbers to) L now steps self.old d }
+        requires { (earlier : Log) × (current : Log) × (steps : Steps) × (d : DisturbanceValue)
+            × MayCarry slot (receiver_numbers to) earlier current steps self.old d }
         ensures { HasSent B.may slot (receiver_numbers to) result self.old self.new
-            (record { log = B.log bus.old; script = B.script bus.old }) (record { log = B.log bus.new; script = B.script bus.new }) }
+            (B.seen bus.old) (B.seen bus.new) }
     {
         let mut traffic = Traffic::begin(alloc, self.done, slot);
         let sent = send_slot(alloc, &mut traffic, bus, &self.nodes, &self.mission, to);
@@ -80,9 +81,11 @@ impl World {
         to: Receivers,
         disturbance: &mut Disturbance,
     ) -> Result<Delivered, Halt>
-        requires { (L : Log) × (now : Log) × (steps : Steps) × MayCarry slot (receiver_numbers to) L now steps self.old disturbance.old }
-        ensures { PassesPart B.may (MayCarry slot (receiver_numbers to)) (HasArrived slot) result self.old self.new disturbance.old disturbance.new
-            (record { log = B.log bus.old; script = B.script bus.old }) (record { log = B.log bus.new; script = B.script bus.new }) }
+        requires { (earlier : Log) × (current : Log) × (steps : Steps)
+            × MayCarry slot (receiver_numbers to) earlier current steps self.old disturbance.old }
+        ensures { PassesPart B.may (MayCarry slot (receiver_numbers to)) (HasArrived slot) result self.old self.new
+            disturbance.old disturbance.new
+            (B.seen bus.old) (B.seen bus.new) }
     {
         let traffic = match self.send(alloc, bus, slot, to) {
             Ok(traffic) => traffic,

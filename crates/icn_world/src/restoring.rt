@@ -1,10 +1,12 @@
-//! The sweep slot, the final slot and the switch slot: what fills the joining channels and switches off the removed ones.
-ghost use Rattle.std.specs.Prelude.{◌≡◌, ◌<◌, ◌++◌, ℕ, OnOk, IfOk};
+//! The sweep slot, the final slot and the switch slot: what fills the joining channels and switches off the removed
+//! ones.
+ghost use Rattle.std.specs.Prelude.{◌≡◌, ◌++◌, OnOk, IfOk};
 ghost use Rattle.guards_model.specs.declared.Slot.TheVariants.{Sweep, Final};
 ghost use Rattle.guards_model.specs.Channels.{by_channel};
 ghost use Rattle.guards_model.specs.Network.{Log, switchboard};
 ghost use Rattle.guards_model.specs.Rounds.{Steps};
 ghost use Rattle.guards_model.specs.Switchboard.{set_of};
+ghost use Rattle.guards_model.specs.Slots.{stage_after, stage_before};
 ghost use Rattle.guards_runs.specs.Cycles.{cycle_at};
 ghost use Rattle.guards_runs.specs.ControlFacts.{closed_of};
 ghost use Rattle.guards_world.specs.InCycle.{InCycle};
@@ -15,7 +17,7 @@ ghost use Rattle.icn_world.specs.Kept.{IsWorldKept};
 use crate::world::{Halt, World};
 use control_state::Closed;
 use fault_script::Disturbance;
-use guards_base::{Chan, ChanSet};
+use guards_base::{Chan, ChanSet, table_by};
 use guards_model::Slot;
 use icn_bus::Bus;
 use icn_frames::Body;
@@ -23,8 +25,8 @@ use slot_traffic::Receivers;
 use std::alloc::{AllocError, Global};
 use world_nodes::Arrived;
 
-// What the slots leave: who is declared joined, how many blocks remain, who took a content, and the set that each channel
-// sent to the switchboard.
+// What the slots leave: who is declared joined, how many blocks remain, who took a content, and the set that each
+// channel sent to the switchboard.
 #[derive(Clone, Copy)]
 pub(crate) struct SweepResult {
     pub(crate) joined: ChanSet,
@@ -33,44 +35,43 @@ pub(crate) struct SweepResult {
     pub(crate) sent: [Option<ChanSet>; 7],
 }
 
-// The set that the channel with this number sent to the switchboard.
-fn set_sent<A: Arrived>(arrived: &A, number: u8) -> Option<ChanSet>
-    requires { number < 7 }
-    ensures { result ≡ set_of (A.got arrived.now number switchboard) }
+// The set that a channel sent to the switchboard.
+fn set_sent<A: Arrived>(arrived: &A, from: Chan) -> Option<ChanSet>
+    ensures { result ≡ set_of (A.got arrived.now from switchboard) }
 {
-    match arrived.body(Chan::new(number).unwrap(), 7) {
+    match arrived.body(from, 7) {
         Some(Body::Switch(active)) => Some(*active),
         _ => None,
     }
 }
 
 // The sets that arrived at the switchboard, by their senders.
-#[tactic(auto, unfolding(guards_model::specs::Channels::by_channel))]
 fn sets_sent<A: Arrived>(arrived: &A) -> [Option<ChanSet>; 7]
     ensures { result ≡ by_channel (λ j. set_of (A.got arrived.now j switchboard)) }
 {
-    [
-        set_sent(arrived, 0),
-        set_sent(arrived, 1),
-        set_sent(arrived, 2),
-        set_sent(arrived, 3),
-        set_sent(arrived, 4),
-        set_sent(arrived, 5),
-        set_sent(arrived, 6),
-    ]
+    table_by(
+        |from: Chan| -> Option<ChanSet>
+            ensures { result ≡ set_of (A.got arrived.entry.now from switchboard) }
+        { set_sent(arrived, from) },
+    )
 }
 
 impl World {
-    // Hands over the sweep slot: the joining channels take the copies, and the running ones close the cycle. Answers what
-    // the first of these answers.
+    // Hands over the sweep slot: the joining channels take the copies, and the running ones close the cycle. Answers
+    // what the first of these answers.
     fn close<A: Arrived>(&mut self, alloc: Global, arrived: &A) -> Result<Closed, AllocError>
-        requires { (L : Log) × (now : Log) × (steps : Steps) × InCycle self.old.mission L now steps Sweep 7 6 self.old }
+        requires { (earlier : Log) × (current : Log) × (steps : Steps)
+            × InCycle self.old.mission earlier current steps Sweep (stage_after Sweep) (stage_before Sweep) self.old }
         ensures kept { IsWorldKept self.old self.new }
-        ensures state { (L now : Log) (steps : Steps) → InCycle self.old.mission L now steps Sweep 7 6 self.old →
-            AreArrivals self.old.mission (L ++ now) self.old.done Sweep (A.got arrived.now) →
-            OnOk result (InCycle self.old.mission L now steps Sweep 7 7 self.new) }
-        ensures closed { (L now : Log) (steps : Steps) → InCycle self.old.mission L now steps Sweep 7 6 self.old →
-            IfOk result (λ closed. closed_value closed ≡ closed_of (cycle_at self.old.mission (L ++ now) self.old.done)) }
+        ensures state { (earlier current : Log) (steps : Steps) →
+            InCycle self.old.mission earlier current steps Sweep (stage_after Sweep) (stage_before Sweep) self.old →
+            AreArrivals self.old.mission (earlier ++ current) self.old.done Sweep (A.got arrived.now) →
+            OnOk result (InCycle self.old.mission earlier current steps Sweep (stage_after Sweep) (stage_after Sweep)
+            self.new) }
+        ensures closed { (earlier current : Log) (steps : Steps) →
+            InCycle self.old.mission earlier current steps Sweep (stage_after Sweep) (stage_before Sweep) self.old →
+            IfOk result (λ closed. closed_value closed
+            ≡ closed_of (cycle_at self.old.mission (earlier ++ current) self.old.done)) }
     {
         let members = self.switchboard.on();
         self.nodes.take_sweep(alloc, self.done, members, arrived)?;
@@ -91,9 +92,11 @@ impl World {
         disturbance: &mut Disturbance,
         targets: ChanSet,
     ) -> Result<Closed, Halt>
-        requires { (L : Log) × (now : Log) × (steps : Steps) × MayRestore targets L now steps self.old disturbance.old }
-        ensures { PassesPart B.may (MayRestore targets) HasClosed result self.old self.new disturbance.old disturbance.new
-            (record { log = B.log bus.old; script = B.script bus.old }) (record { log = B.log bus.new; script = B.script bus.new }) }
+        requires { (earlier : Log) × (current : Log) × (steps : Steps)
+            × MayRestore targets earlier current steps self.old disturbance.old }
+        ensures { PassesPart B.may (MayRestore targets) HasClosed result self.old self.new disturbance.old
+            disturbance.new
+            (B.seen bus.old) (B.seen bus.new) }
     {
         self.enter(Slot::Sweep);
         let to = Receivers::Channels(targets);
@@ -110,9 +113,11 @@ impl World {
         disturbance: &mut Disturbance,
         joined: ChanSet,
     ) -> Result<ChanSet, Halt>
-        requires { (L : Log) × (now : Log) × (steps : Steps) × MayTakeContent joined L now steps self.old disturbance.old }
-        ensures { PassesPart B.may (MayTakeContent joined) IsTaken result self.old self.new disturbance.old disturbance.new
-            (record { log = B.log bus.old; script = B.script bus.old }) (record { log = B.log bus.new; script = B.script bus.new }) }
+        requires { (earlier : Log) × (current : Log) × (steps : Steps)
+            × MayTakeContent joined earlier current steps self.old disturbance.old }
+        ensures { PassesPart B.may (MayTakeContent joined) IsTaken result self.old self.new disturbance.old
+            disturbance.new
+            (B.seen bus.old) (B.seen bus.new) }
     {
         self.enter(Slot::Final);
         let to = Receivers::Channels(joined);
@@ -129,9 +134,12 @@ impl World {
         bus: &mut B,
         disturbance: &mut Disturbance,
     ) -> Result<[Option<ChanSet>; 7], Halt>
-        requires { (L : Log) × (now : Log) × (steps : Steps) × IsWithinCycle Final 8 8 L now steps self.old disturbance.old }
-        ensures { PassesPart B.may (IsWithinCycle Final 8 8) IsSwitched result self.old self.new disturbance.old disturbance.new
-            (record { log = B.log bus.old; script = B.script bus.old }) (record { log = B.log bus.new; script = B.script bus.new }) }
+        requires { (earlier : Log) × (current : Log) × (steps : Steps)
+            × IsWithinCycle Final (stage_after Final) (stage_after Final) earlier current steps self.old
+            disturbance.old }
+        ensures { PassesPart B.may (IsWithinCycle Final (stage_after Final) (stage_after Final)) IsSwitched result
+            self.old self.new disturbance.old disturbance.new
+            (B.seen bus.old) (B.seen bus.new) }
     {
         self.enter(Slot::Switch);
         let arrived = self.carry(
@@ -153,9 +161,11 @@ impl World {
         disturbance: &mut Disturbance,
         targets: ChanSet,
     ) -> Result<SweepResult, Halt>
-        requires { (L : Log) × (now : Log) × (steps : Steps) × MayRestore targets L now steps self.old disturbance.old }
-        ensures { PassesPart B.may (MayRestore targets) IsRestored result self.old self.new disturbance.old disturbance.new
-            (record { log = B.log bus.old; script = B.script bus.old }) (record { log = B.log bus.new; script = B.script bus.new }) }
+        requires { (earlier : Log) × (current : Log) × (steps : Steps)
+            × MayRestore targets earlier current steps self.old disturbance.old }
+        ensures { PassesPart B.may (MayRestore targets) IsRestored result self.old self.new disturbance.old
+            disturbance.new
+            (B.seen bus.old) (B.seen bus.new) }
     {
         let closed = self.pass_sweep(alloc, bus, disturbance, targets)?;
         let joined = closed.joined;

@@ -1,8 +1,7 @@
 //! The first part of a cycle: the requests, the rounds of the exchange, and the decision.
 ghost use Rattle.std.specs.Prelude.{◌≡◌, ◌≤◌, ◌++◌, suc, true, nat_le, ◌+◌};
-ghost use Rattle.guards_model.specs.declared.Slot.{Slot as SlotValue};
 ghost use Rattle.guards_model.specs.declared.Slot.TheVariants.{Request, Round3};
-ghost use Rattle.guards_model.specs.Slots.{slot_index, on_bus, round_number};
+ghost use Rattle.guards_model.specs.Slots.{slot_index, on_bus, round_number, stage_after, stage_before};
 ghost use Rattle.guards_model.specs.Channels.{tolerated_faults};
 ghost use Rattle.guards_model.specs.Network.{Log};
 ghost use Rattle.guards_model.specs.Rounds.{Steps};
@@ -47,9 +46,12 @@ impl World {
     ) -> Result<Delivered, Halt>
         requires on { on_bus slot ≡ true }
         requires among { IsToActive slot }
-        requires stands { (L : Log) × (now : Log) × (steps : Steps) × IsWithinCycle slot (slot_index slot) (slot_index slot) L now steps self.old disturbance.old }
-        ensures { PassesPart B.may (IsWithinCycle slot (slot_index slot) (slot_index slot)) (HasArrived slot) result self.old self.new disturbance.old disturbance.new
-            (record { log = B.log bus.old; script = B.script bus.old }) (record { log = B.log bus.new; script = B.script bus.new }) }
+        requires stands { (earlier : Log) × (current : Log) × (steps : Steps)
+            × IsWithinCycle slot (stage_before slot) (stage_before slot) earlier current steps self.old
+            disturbance.old }
+        ensures { PassesPart B.may (IsWithinCycle slot (stage_before slot) (stage_before slot)) (HasArrived slot) result
+            self.old self.new disturbance.old disturbance.new
+            (B.seen bus.old) (B.seen bus.new) }
     {
         let members = self.switchboard.on();
         self.carry(alloc, bus, slot, Receivers::Channels(members), disturbance)
@@ -65,9 +67,11 @@ impl World {
     ) -> Result<Delivered, Halt>
         requires on { on_bus slot ≡ true }
         requires among { IsToActive slot }
-        requires stands { (L : Log) × (now : Log) × (steps : Steps) × MayEnter slot L now steps self.old disturbance.old }
-        ensures { PassesPart B.may (MayEnter slot) (HasArrived slot) result self.old self.new disturbance.old disturbance.new
-            (record { log = B.log bus.old; script = B.script bus.old }) (record { log = B.log bus.new; script = B.script bus.new }) }
+        requires stands { (earlier : Log) × (current : Log) × (steps : Steps)
+            × MayEnter slot earlier current steps self.old disturbance.old }
+        ensures { PassesPart B.may (MayEnter slot) (HasArrived slot) result self.old self.new disturbance.old
+            disturbance.new
+            (B.seen bus.old) (B.seen bus.new) }
     {
         self.enter(slot);
         self.carry_to_active(alloc, bus, slot, disturbance)
@@ -80,9 +84,11 @@ impl World {
         bus: &mut B,
         disturbance: &mut Disturbance,
     ) -> Result<(), Halt>
-        requires { (L : Log) × (now : Log) × (steps : Steps) × IsAtStart L now steps self.old disturbance.old }
-        ensures { PassesPart B.may IsAtStart (λ _. IsWithinCycle Request 1 1) result self.old self.new disturbance.old disturbance.new
-            (record { log = B.log bus.old; script = B.script bus.old }) (record { log = B.log bus.new; script = B.script bus.new }) }
+        requires { (earlier : Log) × (current : Log) × (steps : Steps)
+            × IsAtStart earlier current steps self.old disturbance.old }
+        ensures { PassesPart B.may IsAtStart (λ _. IsWithinCycle Request (stage_after Request) (stage_after Request))
+            result self.old self.new disturbance.old disturbance.new
+            (B.seen bus.old) (B.seen bus.new) }
     {
         self.open(alloc)?;
         let arrived = self.carry_to_active(alloc, bus, Slot::Request, disturbance)?;
@@ -93,12 +99,18 @@ impl World {
     // The running channels receive what arrived in the slot of a round, where there is such a round.
     fn receive(&mut self, arrived: &Delivered, slot: Slot)
         requires round { 1 ≤ round_number slot }
-        requires stands { (L : Log) × (now : Log) × (steps : Steps) × InCycle self.old.mission L now steps slot (suc (slot_index slot)) (slot_index slot) self.old
-            × AreArrivals self.old.mission (L ++ now) self.old.done slot (got_of arrived.now) }
+        requires stands { (earlier : Log) × (current : Log) × (steps : Steps)
+            × InCycle self.old.mission earlier current steps slot (stage_after slot) (stage_before slot) self.old
+            × AreArrivals self.old.mission (earlier ++ current) self.old.done slot (got_of arrived.now) }
         ensures kept { IsWorldKept self.old self.new }
-        ensures state { (L now : Log) (steps : Steps) → InCycle self.old.mission L now steps slot (suc (slot_index slot)) (slot_index slot) self.old →
-            AreArrivals self.old.mission (L ++ now) self.old.done slot (got_of arrived.now) →
-            self.new ≡ record self.old { nodes = nodes_received self.old.mission (L ++ now) self.old.done (round_number slot) (got_of arrived.now) self.old.nodes } }
+        ensures state { (earlier current : Log) (steps : Steps) →
+            InCycle self.old.mission earlier current steps slot (stage_after slot) (stage_before slot) self.old →
+            AreArrivals self.old.mission (earlier ++ current) self.old.done slot (got_of arrived.now) →
+            self.new ≡ record self.old {
+              nodes =
+                  nodes_received self.old.mission (earlier ++ current) self.old.done (round_number slot)
+                  (got_of arrived.now) self.old.nodes;
+            } }
     {
         arrived.fits();
         let members = self.switchboard.on();
@@ -118,9 +130,11 @@ impl World {
     ) -> Result<(), Halt>
         requires low { 1 ≤ round_number slot }
         requires high { round_number slot ≤ 2 }
-        requires stands { (L : Log) × (now : Log) × (steps : Steps) × MayEnter slot L now steps self.old disturbance.old }
-        ensures { PassesPart B.may (MayEnter slot) (λ _. IsWithinCycle slot (suc (slot_index slot)) (suc (slot_index slot))) result self.old self.new disturbance.old disturbance.new
-            (record { log = B.log bus.old; script = B.script bus.old }) (record { log = B.log bus.new; script = B.script bus.new }) }
+        requires stands { (earlier : Log) × (current : Log) × (steps : Steps)
+            × MayEnter slot earlier current steps self.old disturbance.old }
+        ensures { PassesPart B.may (MayEnter slot) (λ _. IsWithinCycle slot (stage_after slot) (stage_after slot))
+            result self.old self.new disturbance.old disturbance.new
+            (B.seen bus.old) (B.seen bus.new) }
     {
         let arrived = self.pass_slot(alloc, bus, slot, disturbance)?;
         self.receive(&arrived, slot);
@@ -129,15 +143,18 @@ impl World {
 
     // The running channels decide by what they received, in the last round too. Answers what the first of them settled.
     fn decide(&mut self, arrived: &Delivered) -> Reconfiguration
-        requires { (L : Log) × (now : Log) × (steps : Steps) × InCycle self.old.mission L now steps Round3 4 3 self.old
-            × AreArrivals self.old.mission (L ++ now) self.old.done Round3 (got_of arrived.now) }
+        requires { (earlier : Log) × (current : Log) × (steps : Steps)
+            × InCycle self.old.mission earlier current steps Round3 (stage_after Round3) (stage_before Round3) self.old
+            × AreArrivals self.old.mission (earlier ++ current) self.old.done Round3 (got_of arrived.now) }
         ensures kept { IsWorldKept self.old self.new }
-        ensures state { (L now : Log) (steps : Steps) → InCycle self.old.mission L now steps Round3 4 3 self.old →
-            AreArrivals self.old.mission (L ++ now) self.old.done Round3 (got_of arrived.now) →
-            InCycle self.old.mission L now steps Round3 4 4 self.new }
-        ensures settled { (L now : Log) (steps : Steps) → InCycle self.old.mission L now steps Round3 4 3 self.old →
-            AreArrivals self.old.mission (L ++ now) self.old.done Round3 (got_of arrived.now) →
-            AreOfCycle result self.old.mission (L ++ now) self.old.done }
+        ensures state { (earlier current : Log) (steps : Steps) →
+            InCycle self.old.mission earlier current steps Round3 (stage_after Round3) (stage_before Round3) self.old →
+            AreArrivals self.old.mission (earlier ++ current) self.old.done Round3 (got_of arrived.now) →
+            InCycle self.old.mission earlier current steps Round3 (stage_after Round3) (stage_after Round3) self.new }
+        ensures settled { (earlier current : Log) (steps : Steps) →
+            InCycle self.old.mission earlier current steps Round3 (stage_after Round3) (stage_before Round3) self.old →
+            AreArrivals self.old.mission (earlier ++ current) self.old.done Round3 (got_of arrived.now) →
+            AreOfCycle result self.old.mission (earlier ++ current) self.old.done }
     {
         self.receive(arrived, Slot::Round3);
         let removed = self.nodes.decide(&self.mission, self.done).unwrap();
@@ -154,24 +171,27 @@ impl World {
         bus: &mut B,
         disturbance: &mut Disturbance,
     ) -> Result<Reconfiguration, Halt>
-        requires { (L : Log) × (now : Log) × (steps : Steps) × MayEnter Round3 L now steps self.old disturbance.old }
+        requires { (earlier : Log) × (current : Log) × (steps : Steps)
+            × MayEnter Round3 earlier current steps self.old disturbance.old }
         ensures { PassesPart B.may (MayEnter Round3) IsDecided result self.old self.new disturbance.old disturbance.new
-            (record { log = B.log bus.old; script = B.script bus.old }) (record { log = B.log bus.new; script = B.script bus.new }) }
+            (B.seen bus.old) (B.seen bus.new) }
     {
         let arrived = self.pass_slot(alloc, bus, Slot::Round3, disturbance)?;
         Ok(self.decide(&arrived))
     }
 
-    // The first part of a cycle: its opening, the requests, the rounds, the decision, and the tasks slot up to the work.
+    // The first part of a cycle: its opening, the requests, the rounds, the decision, and the tasks slot up to the
+    // work.
     pub(crate) fn settle<B: Bus>(
         &mut self,
         alloc: Global,
         bus: &mut B,
         disturbance: &mut Disturbance,
     ) -> Result<Reconfiguration, Halt>
-        requires { (L : Log) × (now : Log) × (steps : Steps) × IsAtStart L now steps self.old disturbance.old }
+        requires { (earlier : Log) × (current : Log) × (steps : Steps)
+            × IsAtStart earlier current steps self.old disturbance.old }
         ensures { PassesPart B.may IsAtStart IsSettled result self.old self.new disturbance.old disturbance.new
-            (record { log = B.log bus.old; script = B.script bus.old }) (record { log = B.log bus.new; script = B.script bus.new }) }
+            (B.seen bus.old) (B.seen bus.new) }
     {
         self.ask(alloc, bus, disturbance)?;
         self.round(alloc, bus, Slot::Round1, disturbance)?;

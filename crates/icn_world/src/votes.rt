@@ -2,6 +2,7 @@
 ghost use Rattle.guards_model.specs.Network.{Log};
 ghost use Rattle.guards_model.specs.Rounds.{Steps};
 ghost use Rattle.guards_model.specs.declared.Slot.TheVariants.{Tasks};
+ghost use Rattle.guards_model.specs.Slots.{stage_after};
 
 use crate::world::{Halt, World};
 use fault_script::Disturbance;
@@ -14,17 +15,20 @@ impl World {
     ghost use Rattle.icn_world.specs.Stages.{PassesPart, IsWithinCycle};
     ghost use Rattle.icn_world.specs.Voted.{HasVoted};
 
-    // Passes the vote slot, in which all active channels send their output words to each other. Answers the lines of those
-    // that run.
+    // Passes the vote slot, in which all active channels send their output words to each other. Answers the lines of
+    // those that run.
     pub(crate) fn vote<B: Bus>(
         &mut self,
         alloc: Global,
         bus: &mut B,
         disturbance: &mut Disturbance,
     ) -> Result<Lines, Halt>
-        requires { (L : Log) × (now : Log) × (steps : Steps) × IsWithinCycle Tasks 5 5 L now steps self.old disturbance.old }
-        ensures { PassesPart B.may (IsWithinCycle Tasks 5 5) HasVoted result self.old self.new disturbance.old disturbance.new
-            (record { log = B.log bus.old; script = B.script bus.old }) (record { log = B.log bus.new; script = B.script bus.new }) }
+        requires { (earlier : Log) × (current : Log) × (steps : Steps)
+            × IsWithinCycle Tasks (stage_after Tasks) (stage_after Tasks) earlier current steps self.old
+            disturbance.old }
+        ensures { PassesPart B.may (IsWithinCycle Tasks (stage_after Tasks) (stage_after Tasks)) HasVoted result
+            self.old self.new disturbance.old disturbance.new
+            (B.seen bus.old) (B.seen bus.new) }
     {
         let arrived = self.pass_slot(alloc, bus, Slot::Vote, disturbance)?;
         let lines = self.take_votes(alloc, &arrived)?;

@@ -1,8 +1,9 @@
 //! The work of the tasks slot.
-ghost use Rattle.std.specs.Prelude.{◌≡◌, IfOk};
+ghost use Rattle.std.specs.Prelude.{IfOk};
 ghost use Rattle.guards_model.specs.declared.Slot.TheVariants.{Tasks};
 ghost use Rattle.guards_model.specs.Network.{Log};
 ghost use Rattle.guards_model.specs.Rounds.{Steps};
+ghost use Rattle.guards_model.specs.Slots.{stage_after, stage_before};
 ghost use Rattle.guards_world.specs.InCycle.{InCycle};
 ghost use Rattle.icn_world.specs.Kept.{IsWorldKept};
 ghost use Rattle.icn_world.specs.Work.{HasDoneWork};
@@ -16,7 +17,8 @@ use std::sync::Wait;
 use std::thread::Threads;
 
 impl World {
-    // The work of the tasks slot: the running channels make their writes and copies. Answers the rounds of those that worked.
+    // The work of the tasks slot: the running channels make their writes and copies. Answers the rounds of those that
+    // worked.
     pub(crate) fn work<C: Calls + Sync, G: Gate, R: Threads + Wait + Sync>(
         &mut self,
         rt: &R,
@@ -24,10 +26,12 @@ impl World {
         gate: &G,
         natives: &C,
     ) -> Result<Traces, AllocError>
-        requires { (L : Log) × (now : Log) × (steps : Steps) × InCycle self.old.mission L now steps Tasks 5 4 self.old }
+        requires { (earlier : Log) × (current : Log) × (steps : Steps)
+            × InCycle self.old.mission earlier current steps Tasks (stage_after Tasks) (stage_before Tasks) self.old }
         ensures kept { IsWorldKept self.old self.new }
-        ensures worked { IfOk result (λ traces. (made : Steps) × ((L now : Log) (steps : Steps) →
-            InCycle self.old.mission L now steps Tasks 5 4 self.old → HasDoneWork made traces.items L now self.new)) }
+        ensures worked { IfOk result (λ traces. (made : Steps) × ((earlier current : Log) (steps : Steps) →
+            InCycle self.old.mission earlier current steps Tasks (stage_after Tasks) (stage_before Tasks) self.old →
+            HasDoneWork made traces.items earlier current self.new)) }
     {
         let traces = self
             .nodes

@@ -60,10 +60,13 @@ impl Model for Mission {
 
     ghost coded = { coded_mission };
 
-    ghost view = { λ m. mission_with m.rules m.cycles m.width m.return_after m.initial m.table m.outputs.items m.sensors.items m.script m.actuator };
+    ghost view = { λ m. mission_with m.rules m.cycles m.width m.return_after m.initial m.table m.outputs.items
+        m.sensors.items m.script m.actuator };
 
     // How the parts fit together.
-    ghost invariant = { λ m. AreParts (mission_with m.rules m.cycles m.width m.return_after m.initial m.table m.outputs.items m.sensors.items m.script m.actuator) m.table m.sensors.items m.actuator };
+    ghost invariant = { λ m. AreParts
+        (mission_with m.rules m.cycles m.width m.return_after m.initial m.table m.outputs.items m.sensors.items m.script
+        m.actuator) m.table m.sensors.items m.actuator };
 }
 
 /// The word of a block of the context.
@@ -91,42 +94,49 @@ impl Mission {
         let _width = self.width;
     }
 
+    /// The rules of diagnosis, removal and transfer.
     pub fn rules(&self) -> &Rules
         ensures { result.now ≡ self.now.rules }
     {
         &self.rules
     }
 
+    /// The number of cycles.
     pub fn cycles(&self) -> u32
         ensures { result ≡ self.now.cycles }
     {
         self.cycles
     }
 
+    /// The number of sensor words of a channel, 1 to 4.
     pub fn width(&self) -> u8
         ensures { result ≡ self.now.width }
     {
         self.width
     }
 
+    /// How many cycles a channel waits that was switched off.
     pub fn return_after(&self) -> u32
         ensures { result ≡ self.now.return_after }
     {
         self.return_after
     }
 
+    /// The context before the first cycle.
     pub fn initial(&self) -> &Context
         ensures { result.now ≡ self.now.initial }
     {
         &self.initial
     }
 
+    /// The block and the word of each output, 1 to 8 of them.
     pub fn outputs(&self) -> &[(u8, u8)]
         ensures { result.now ≡ self.now.outputs }
     {
         self.outputs.as_slice()
     }
 
+    /// The fault script.
     pub fn script(&self) -> &Script
         ensures { result.now ≡ self.now.script }
     {
@@ -143,7 +153,11 @@ impl Mission {
 
     /// Lends the table, which is made for the mission's contexts and inputs.
     pub fn table(&self) -> &Table
-        ensures { result.now ≡ record { rows = self.now.table; blocks = self.now.rules.blocks; width = self.now.width } }
+        ensures { result.now ≡ record {
+          rows = self.now.table;
+          blocks = self.now.rules.blocks;
+          width = self.now.width;
+        } }
     {
         &self.table
     }

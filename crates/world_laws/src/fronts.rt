@@ -1,7 +1,7 @@
 //! What was carried of a cycle, wherever memory runs out in it.
 ghost use Rattle.std.specs.Prelude.{◌≡◌, true, ℕ, ◌++◌, take};
 ghost use Rattle.guards_model.specs.declared.Slot.{Slot};
-ghost use Rattle.guards_model.specs.Slots.{slot_index, on_bus};
+ghost use Rattle.guards_model.specs.Slots.{slot_index, on_bus, stage_before};
 ghost use Rattle.guards_model.specs.Missions.{MissionValue};
 ghost use Rattle.guards_model.specs.Network.{Log};
 ghost use Rattle.guards_model.specs.Rounds.{Steps};
@@ -12,11 +12,13 @@ ghost use Rattle.guards_world.specs.InCycle.{InCycle};
 ghost use Rattle.guards_world.specs.Passing.{AreDueCarries};
 ghost use Rattle.world_laws.specs.Fronts.{IsRunFront};
 
-/// Within a slot, when only some of its entries were carried, what the log has of the cycle is a front of the run's due entries:
-/// the slots before did not stop the run, and nothing of a later one was carried.
+/// Within a slot, when only some of its entries were carried, what the log has of the cycle is a front of the run's due
+/// entries: the slots before did not stop the run, and nothing of a later one was carried.
 pub fn fronts_end_at_stops()
-    ensures { (M : MissionValue) (L now new : Log) (steps : Steps) (slot : Slot) (w : WorldValue) (few : ℕ) → on_bus slot ≡ true →
-        InCycle M L now steps slot (slot_index slot) (slot_index slot) w →
-        AreDueCarries M (L ++ now) w.done steps (take few (slot_carries w.done (cycle_at M (L ++ now) w.done) slot)) new →
-        IsRunFront M L (now ++ new) w.done }
+    ensures { (M : MissionValue) (earlier current new : Log) (steps : Steps) (slot : Slot) (w : WorldValue) (few : ℕ) →
+        on_bus slot ≡ true →
+        InCycle M earlier current steps slot (stage_before slot) (stage_before slot) w →
+        AreDueCarries M (earlier ++ current) w.done steps
+        (take few (slot_carries w.done (cycle_at M (earlier ++ current) w.done) slot)) new →
+        IsRunFront M earlier (current ++ new) w.done }
 {}

@@ -7,8 +7,7 @@ ghost use Rattle.guards_world.specs.NodeLists.{ballots_arrived, with_votes, vote
 use crate::arrived::Arrived;
 use crate::nodes::Nodes;
 use channel_node::Node;
-use control_state::channel;
-use guards_base::{Ballot, Chan, ChannelLine, Mode, Sequence};
+use guards_base::{Ballot, Chan, ChannelLine, Mode, Sequence, table_by};
 use icn_frames::Body;
 use mission_type::Mission;
 use std::alloc::{AllocError, Global};
@@ -27,19 +26,14 @@ fn ballot<A: Arrived>(arrived: &A, from: Chan, me: Chan) -> Option<Ballot>
 }
 
 // The ballots that arrived at a channel.
-#[tactic(auto, unfolding(guards_model::specs::Channels::by_channel))]
 fn ballots<A: Arrived>(arrived: &A, me: Chan) -> [Option<Ballot>; 7]
     ensures { result ≡ ballots_arrived (A.got arrived.now) me }
 {
-    [
-        ballot(arrived, channel(0), me),
-        ballot(arrived, channel(1), me),
-        ballot(arrived, channel(2), me),
-        ballot(arrived, channel(3), me),
-        ballot(arrived, channel(4), me),
-        ballot(arrived, channel(5), me),
-        ballot(arrived, channel(6), me),
-    ]
+    table_by(
+        |from: Chan| -> Option<Ballot>
+            ensures { result ≡ ballot_of (A.got arrived.entry.now from me) }
+        { ballot(arrived, from, me) },
+    )
 }
 
 // The vote of a node, and its line, where it runs.
@@ -72,7 +66,8 @@ fn vote_each<A: Arrived>(
 ) -> Result<(), AllocError>
     requires { All (HasDecision mission.now) nodes.old }
     ensures state { OnOk result (nodes.new ≡ map (with_votes mission.now (A.got arrived.now)) nodes.old) }
-    ensures lines { OnOk result (lines.new.items ≡ lines.old.items ++ filter_map (vote_line mission.now (A.got arrived.now)) nodes.old) }
+    ensures lines { OnOk result
+        (lines.new.items ≡ lines.old.items ++ filter_map (vote_line mission.now (A.got arrived.now)) nodes.old) }
 {
     if let Some((node, rest)) = nodes.split_first_mut() {
         let line = vote_one(node, mission, arrived);
@@ -93,7 +88,8 @@ impl Nodes {
     ) -> Result<Lines, AllocError>
         requires { All (HasDecision mission.now) self.old }
         ensures state { OnOk result (self.new ≡ map (with_votes mission.now (A.got arrived.now)) self.old) }
-        ensures lines { IfOk result (λ lines. lines.items ≡ filter_map (vote_line mission.now (A.got arrived.now)) self.old) }
+        ensures lines { IfOk result
+            (λ lines. lines.items ≡ filter_map (vote_line mission.now (A.got arrived.now)) self.old) }
         ensures count { length self.new ≡ length self.old }
     {
         let mut lines = Lines::new(alloc);

@@ -69,17 +69,15 @@ fn send_frame<B: Bus>(
     to: Receivers,
 ) -> Result<(), AllocError>
     requires { IfSome frame (λ frame. IsTrue (in_range frame)) }
-    ensures script { B.script bus.new ≡ B.script bus.old }
-    ensures sent { OnOk result (SendsSlot B.may (B.script bus.old) (B.log bus.old) (B.log bus.new)
+    ensures script { (B.seen bus.new).script ≡ (B.seen bus.old).script }
+    ensures sent { OnOk result (SendsSlot B.may (B.seen bus.old).script (B.seen bus.old).log (B.seen bus.new).log
         (sends_by traffic.old.cycle traffic.old.slot (receiver_numbers to) frame) traffic.old traffic.new) }
-    ensures some { OnErr result (SendsFirstOfSlot B.may (B.script bus.old) (B.log bus.old) (B.log bus.new)
+    ensures some { OnErr result
+        (SendsFirstOfSlot B.may (B.seen bus.old).script (B.seen bus.old).log (B.seen bus.new).log
         (sends_by traffic.old.cycle traffic.old.slot (receiver_numbers to) frame) traffic.old traffic.new) }
 {
     match frame {
-        Some(frame) => match traffic.send(bus, frame, to) {
-            Ok(()) => Ok(()),
-            Err(error) => Err(error),
-        },
+        Some(frame) => traffic.send(bus, frame, to),
         None => Ok(()),
     }
 }
@@ -94,17 +92,20 @@ fn send_owed<B: Bus>(
     target: Chan,
     to: Receivers,
 ) -> Result<(), AllocError>
-    requires { (received : AllReceived) × StandsForReceived received node.now × MaySend mission.now traffic.old.cycle traffic.old.slot received node.now }
-    ensures script { B.script bus.new ≡ B.script bus.old }
+    requires { (received : AllReceived) × StandsForReceived received node.now
+        × MaySend mission.now traffic.old.cycle traffic.old.slot received node.now }
+    ensures script { (B.seen bus.new).script ≡ (B.seen bus.old).script }
     ensures sent { (received : AllReceived) → StandsForReceived received node.now →
-        OnOk result (SendsSlot B.may (B.script bus.old) (B.log bus.old) (B.log bus.new)
+        OnOk result (SendsSlot B.may (B.seen bus.old).script (B.seen bus.old).log (B.seen bus.new).log
         (sends_by traffic.old.cycle traffic.old.slot (receiver_numbers to)
-        (framed node.now traffic.old.cycle (body_of mission.now (received node.now.channel) traffic.old.slot target node.now.state)))
+        (framed node.now traffic.old.cycle
+        (body_of mission.now (received node.now.channel) traffic.old.slot target node.now.state)))
         traffic.old traffic.new) }
     ensures some { (received : AllReceived) → StandsForReceived received node.now →
-        OnErr result (SendsFirstOfSlot B.may (B.script bus.old) (B.log bus.old) (B.log bus.new)
+        OnErr result (SendsFirstOfSlot B.may (B.seen bus.old).script (B.seen bus.old).log (B.seen bus.new).log
         (sends_by traffic.old.cycle traffic.old.slot (receiver_numbers to)
-        (framed node.now traffic.old.cycle (body_of mission.now (received node.now.channel) traffic.old.slot target node.now.state)))
+        (framed node.now traffic.old.cycle
+        (body_of mission.now (received node.now.channel) traffic.old.slot target node.now.state)))
         traffic.old traffic.new) }
 {
     let frame = owed(
@@ -115,10 +116,7 @@ fn send_owed<B: Bus>(
         traffic.slot(),
         target,
     )?;
-    match send_frame(traffic, bus, frame, to) {
-        Ok(()) => Ok(()),
-        Err(error) => Err(error),
-    }
+    send_frame(traffic, bus, frame, to)
 }
 
 // The set of one channel.
@@ -139,35 +137,27 @@ fn send_targets<B: Bus>(
     targets: ChanSet,
     channels: &[Chan],
 ) -> Result<(), AllocError>
-    requires { (received : AllReceived) × StandsForReceived received node.now × MaySend mission.now traffic.old.cycle traffic.old.slot received node.now }
-    ensures script { B.script bus.new ≡ B.script bus.old }
+    requires { (received : AllReceived) × StandsForReceived received node.now
+        × MaySend mission.now traffic.old.cycle traffic.old.slot received node.now }
+    ensures script { (B.seen bus.new).script ≡ (B.seen bus.old).script }
     ensures sent { (received : AllReceived) → StandsForReceived received node.now →
-        OnOk result (SendsSlot B.may (B.script bus.old) (B.log bus.old) (B.log bus.new)
-        (sends_of mission.now traffic.old.cycle traffic.old.slot (filter (has targets) channels.now) (received node.now.channel) node.now)
+        OnOk result (SendsSlot B.may (B.seen bus.old).script (B.seen bus.old).log (B.seen bus.new).log
+        (sends_of mission.now traffic.old.cycle traffic.old.slot (filter (has targets) channels.now)
+        (received node.now.channel) node.now)
         traffic.old traffic.new) }
     ensures some { (received : AllReceived) → StandsForReceived received node.now →
-        OnErr result (SendsFirstOfSlot B.may (B.script bus.old) (B.log bus.old) (B.log bus.new)
-        (sends_of mission.now traffic.old.cycle traffic.old.slot (filter (has targets) channels.now) (received node.now.channel) node.now)
+        OnErr result (SendsFirstOfSlot B.may (B.seen bus.old).script (B.seen bus.old).log (B.seen bus.new).log
+        (sends_of mission.now traffic.old.cycle traffic.old.slot (filter (has targets) channels.now)
+        (received node.now.channel) node.now)
         traffic.old traffic.new) }
 {
-    let Some((target, rest)) = channels.split_first() else {
-        return Ok(());
-    };
-    if targets.has(*target) {
-        let to = Receivers::Channels(set_of_one(*target));
-        match send_owed(alloc, traffic, bus, node, mission, *target, to) {
-            Ok(()) => match send_targets(alloc, traffic, bus, node, mission, targets, rest) {
-                Ok(()) => Ok(()),
-                Err(error) => Err(error),
-            },
-            Err(error) => Err(error),
-        }
-    } else {
-        match send_targets(alloc, traffic, bus, node, mission, targets, rest) {
-            Ok(()) => Ok(()),
-            Err(error) => Err(error),
+    for target in channels {
+        if targets.has(*target) {
+            let to = Receivers::Channels(set_of_one(*target));
+            send_owed(alloc, traffic, bus, node, mission, *target, to)?;
         }
     }
+    Ok(())
 }
 
 // Sends a node's frames of the slot: one for each target, or the same to all.
@@ -179,22 +169,25 @@ fn send_node<B: Bus>(
     mission: &Mission,
     to: Receivers,
 ) -> Result<(), AllocError>
-    requires { (received : AllReceived) × StandsForReceived received node.now × MaySend mission.now traffic.old.cycle traffic.old.slot received node.now }
-    ensures script { B.script bus.new ≡ B.script bus.old }
+    requires { (received : AllReceived) × StandsForReceived received node.now
+        × MaySend mission.now traffic.old.cycle traffic.old.slot received node.now }
+    ensures script { (B.seen bus.new).script ≡ (B.seen bus.old).script }
     ensures sent { (received : AllReceived) → StandsForReceived received node.now →
-        OnOk result (SendsSlot B.may (B.script bus.old) (B.log bus.old) (B.log bus.new)
-        (sends_of mission.now traffic.old.cycle traffic.old.slot (receiver_numbers to) (received node.now.channel) node.now)
+        OnOk result (SendsSlot B.may (B.seen bus.old).script (B.seen bus.old).log (B.seen bus.new).log
+        (sends_of mission.now traffic.old.cycle traffic.old.slot (receiver_numbers to) (received node.now.channel)
+        node.now)
         traffic.old traffic.new) }
     ensures some { (received : AllReceived) → StandsForReceived received node.now →
-        OnErr result (SendsFirstOfSlot B.may (B.script bus.old) (B.log bus.old) (B.log bus.new)
-        (sends_of mission.now traffic.old.cycle traffic.old.slot (receiver_numbers to) (received node.now.channel) node.now)
+        OnErr result (SendsFirstOfSlot B.may (B.seen bus.old).script (B.seen bus.old).log (B.seen bus.new).log
+        (sends_of mission.now traffic.old.cycle traffic.old.slot (receiver_numbers to) (received node.now.channel)
+        node.now)
         traffic.old traffic.new) }
 {
     if has_targets(traffic.slot()) {
         match to {
             Receivers::Channels(targets) => {
                 let _ = targets.flags();
-                match send_targets(
+                send_targets(
                     alloc,
                     traffic,
                     bus,
@@ -202,19 +195,13 @@ fn send_node<B: Bus>(
                     mission,
                     targets,
                     &every_channel(),
-                ) {
-                    Ok(()) => Ok(()),
-                    Err(error) => Err(error),
-                }
+                )
             }
             // No frame has the switchboard as its target.
             Receivers::Switchboard => Ok(()),
         }
     } else {
-        match send_owed(alloc, traffic, bus, node, mission, node.channel(), to) {
-            Ok(()) => Ok(()),
-            Err(error) => Err(error),
-        }
+        send_owed(alloc, traffic, bus, node, mission, node.channel(), to)
     }
 }
 
@@ -227,30 +214,27 @@ fn send_each<B: Bus>(
     mission: &Mission,
     to: &Receivers,
 ) -> Result<(), AllocError>
-    requires { (received : AllReceived) × All (StandsForReceived received) nodes.now × All (MaySend mission.now traffic.old.cycle traffic.old.slot received) nodes.now }
-    ensures script { B.script bus.new ≡ B.script bus.old }
+    requires { (received : AllReceived) × All (StandsForReceived received) nodes.now
+        × All (MaySend mission.now traffic.old.cycle traffic.old.slot received) nodes.now }
+    ensures script { (B.seen bus.new).script ≡ (B.seen bus.old).script }
     ensures sent { (received : AllReceived) → All (StandsForReceived received) nodes.now →
-        OnOk result (SendsSlot B.may (B.script bus.old) (B.log bus.old) (B.log bus.new)
-        (all_sends mission.now traffic.old.cycle traffic.old.slot (receiver_numbers to.now) received nodes.now) traffic.old traffic.new) }
+        OnOk result (SendsSlot B.may (B.seen bus.old).script (B.seen bus.old).log (B.seen bus.new).log
+        (all_sends mission.now traffic.old.cycle traffic.old.slot (receiver_numbers to.now) received nodes.now)
+        traffic.old traffic.new) }
     ensures some { (received : AllReceived) → All (StandsForReceived received) nodes.now →
-        OnErr result (SendsFirstOfSlot B.may (B.script bus.old) (B.log bus.old) (B.log bus.new)
-        (all_sends mission.now traffic.old.cycle traffic.old.slot (receiver_numbers to.now) received nodes.now) traffic.old traffic.new) }
+        OnErr result (SendsFirstOfSlot B.may (B.seen bus.old).script (B.seen bus.old).log (B.seen bus.new).log
+        (all_sends mission.now traffic.old.cycle traffic.old.slot (receiver_numbers to.now) received nodes.now)
+        traffic.old traffic.new) }
 {
-    let Some((node, rest)) = nodes.split_first() else {
-        return Ok(());
-    };
-    match send_node(alloc, traffic, bus, node, mission, *to) {
-        Ok(()) => match send_each(alloc, traffic, bus, rest, mission, to) {
-            Ok(()) => Ok(()),
-            Err(error) => Err(error),
-        },
-        Err(error) => Err(error),
+    for node in nodes {
+        send_node(alloc, traffic, bus, node, mission, *to)?;
     }
+    Ok(())
 }
 
-/// Sends what each node owes in the slot of the traffic, in their order: its frame to each receiver, and in the sweep and the
-/// final slot to each target the frame for it. The traffic grows by what was carried, and for want of memory by the first few
-/// of these entries.
+/// Sends what each node owes in the slot of the traffic, in their order: its frame to each receiver, and in the sweep
+/// and the final slot to each target the frame for it. The traffic grows by what was carried, and for want of memory by
+/// the first few of these entries.
 pub fn send_slot<B: Bus>(
     alloc: Global,
     traffic: &mut Traffic,
@@ -259,17 +243,17 @@ pub fn send_slot<B: Bus>(
     mission: &Mission,
     to: Receivers,
 ) -> Result<(), AllocError>
-    requires { (received : AllReceived) × All (StandsForReceived received) nodes.now × All (MaySend mission.now traffic.old.cycle traffic.old.slot received) nodes.now }
-    ensures script { B.script bus.new ≡ B.script bus.old }
+    requires { (received : AllReceived) × All (StandsForReceived received) nodes.now
+        × All (MaySend mission.now traffic.old.cycle traffic.old.slot received) nodes.now }
+    ensures script { (B.seen bus.new).script ≡ (B.seen bus.old).script }
     ensures sent { (received : AllReceived) → All (StandsForReceived received) nodes.now →
-        OnOk result (SendsSlot B.may (B.script bus.old) (B.log bus.old) (B.log bus.new)
-        (all_sends mission.now traffic.old.cycle traffic.old.slot (receiver_numbers to) received nodes.now) traffic.old traffic.new) }
+        OnOk result (SendsSlot B.may (B.seen bus.old).script (B.seen bus.old).log (B.seen bus.new).log
+        (all_sends mission.now traffic.old.cycle traffic.old.slot (receiver_numbers to) received nodes.now) traffic.old
+        traffic.new) }
     ensures some { (received : AllReceived) → All (StandsForReceived received) nodes.now →
-        OnErr result (SendsFirstOfSlot B.may (B.script bus.old) (B.log bus.old) (B.log bus.new)
-        (all_sends mission.now traffic.old.cycle traffic.old.slot (receiver_numbers to) received nodes.now) traffic.old traffic.new) }
+        OnErr result (SendsFirstOfSlot B.may (B.seen bus.old).script (B.seen bus.old).log (B.seen bus.new).log
+        (all_sends mission.now traffic.old.cycle traffic.old.slot (receiver_numbers to) received nodes.now) traffic.old
+        traffic.new) }
 {
-    match send_each(alloc, traffic, bus, nodes.as_slice(), mission, &to) {
-        Ok(()) => Ok(()),
-        Err(error) => Err(error),
-    }
+    send_each(alloc, traffic, bus, nodes.as_slice(), mission, &to)
 }

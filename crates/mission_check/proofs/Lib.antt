@@ -1,0 +1,3 @@
+pub mod BytesRead
+pub mod MissionTold
+pub mod RowTexts
