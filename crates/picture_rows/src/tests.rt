@@ -97,7 +97,7 @@ fn a_mission_that_is_none_or_does_not_fit_is_told(rt: HostRuntime) -> Result<(),
     assert!(rt; drawn(alloc, &smooth("--- trace"))?.is(3, "mission: missing core\n"));
     let unreported = stream(alloc, MISSION, "")?;
     assert!(rt; drawn(alloc, &smooth(&unreported))?.is(3, "report: line 1\n"));
-    let long = stream(alloc, &"# ".repeat(alloc, 131_073)?, RESTORED)?;
+    let long = stream(alloc, &"#\n".repeat(alloc, 131_073)?, RESTORED)?;
     assert!(rt; drawn(alloc, &smooth(&long))?.is(4, "mission: too long\n"));
     Ok(())
 }
