@@ -64,6 +64,7 @@ impl Alpha {
         }
     }
 
+    /// The count in units of 1/65536, at most 16,777,216.
     pub fn units(self) -> u32
         ensures value { result ≡ self }
         ensures cap { result ≤ Alpha.CAP }

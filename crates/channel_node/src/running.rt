@@ -1,5 +1,5 @@
 //! A running channel.
-ghost use Rattle.std.specs.Prelude.{◌≡◌, ◌<◌, ◌≤◌, true, length, slice_set, Option, Some, None, option_map};
+ghost use Rattle.std.specs.Prelude.{◌≡◌, ◌<◌, ◌≤◌, true, length, slice_set, Option, Some, None};
 ghost use Rattle.guards_model.specs.Controls.{first_control, transfer_in};
 ghost use Rattle.guards_model.specs.Decisions.{request_code};
 ghost use Rattle.guards_model.specs.Missions.{is_rules};

@@ -1,5 +1,5 @@
 //! What the channel owes in the slots of a cycle.
-ghost use Rattle.std.specs.Prelude.{◌≡◌, ◌<◌, ◌≤◌, true, map, All, length, Some, IfOk, option_map, option_and_then};
+ghost use Rattle.std.specs.Prelude.{◌≡◌, ◌<◌, map, All, length, Some, IfOk, option_map, option_and_then};
 ghost use Rattle.guards_model.specs.Frames.{exchange_body, sweep_body, final_body};
 ghost use Rattle.guards_nodes.specs.NodeSteps.{Received, TreeStandsFor};
 ghost use Rattle.guards_nodes.specs.NodeFrames.{exchange_in, sweep_to, final_to};

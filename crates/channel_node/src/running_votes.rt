@@ -1,5 +1,5 @@
 //! The vote.
-ghost use Rattle.std.specs.Prelude.{◌≡◌, ◌<◌, ◌≤◌, ◌-◌, ◌++◌, ◌==◌, Some, None, length, replicate, if◌then◌else◌};
+ghost use Rattle.std.specs.Prelude.{◌≡◌, ◌≤◌, ◌-◌, ◌++◌, ◌==◌, Some, None, length, replicate, if◌then◌else◌};
 ghost use Rattle.guards_model.specs.Channels.{place_or};
 ghost use Rattle.guards_model.specs.Voting.{vote_of, accused_of};
 ghost use Rattle.guards_nodes.specs.NodeStates.{DecidedValue};
@@ -7,20 +7,18 @@ ghost use Rattle.guards_nodes.specs.NodeSteps.{words_at, with_own, after_votes};
 ghost use Rattle.guards_nodes.specs.WholeLines.{whole_line};
 
 use crate::running::Running;
-use control_state::Control;
-use guards_base::{Ballot, Chan, ChanSet, ChannelLine};
+use guards_base::{Ballot, Chan, ChanSet, ChannelLine, table_by};
 use mission_type::Mission;
 use voter::{accusations, vote};
 
 // The ballot of a channel, where the own one is this.
-fn ballot_of(ballots: &[Option<Ballot>; 7], me: Chan, own: &Ballot, j: u8) -> Option<Ballot>
-    requires { j < 7 }
+fn ballot_of(ballots: &[Option<Ballot>; 7], me: Chan, own: &Ballot, j: Chan) -> Option<Ballot>
     ensures { result ≡ (if j == me then Some own.now else place_or ballots.now j None) }
 {
-    if j == me.index() {
+    if j.index() == me.index() {
         Some(*own)
     } else {
-        ballots[usize::from(j)]
+        ballots[usize::from(j.index())]
     }
 }
 
@@ -29,15 +27,11 @@ fn ballot_of(ballots: &[Option<Ballot>; 7], me: Chan, own: &Ballot, j: u8) -> Op
 fn with_own_ballot(ballots: &[Option<Ballot>; 7], me: Chan, own: &Ballot) -> [Option<Ballot>; 7]
     ensures { result ≡ with_own me own.now ballots.now }
 {
-    [
-        ballot_of(ballots, me, own, 0),
-        ballot_of(ballots, me, own, 1),
-        ballot_of(ballots, me, own, 2),
-        ballot_of(ballots, me, own, 3),
-        ballot_of(ballots, me, own, 4),
-        ballot_of(ballots, me, own, 5),
-        ballot_of(ballots, me, own, 6),
-    ]
+    table_by(
+        |j: Chan| -> Option<Ballot>
+            ensures { result ≡ (if j == me then Some own.entry.now else place_or ballots.entry.now j None) }
+        { ballot_of(ballots, me, own, j) },
+    )
 }
 
 // The votes on so many outputs, and whom they accuse.
@@ -62,21 +56,6 @@ fn outputs_of(mission: &Mission) -> u8
 {
     mission.prove_sizes();
     mission.outputs().len() as u8
-}
-
-// The units of each count.
-fn units(control: &Control) -> [u32; 7]
-    ensures { result ≡ control.now.counts }
-{
-    [
-        control.alphas[0].units(),
-        control.alphas[1].units(),
-        control.alphas[2].units(),
-        control.alphas[3].units(),
-        control.alphas[4].units(),
-        control.alphas[5].units(),
-        control.alphas[6].units(),
-    ]
 }
 
 impl Running {
@@ -112,7 +91,7 @@ impl Running {
             inputs: decided.whole_inputs(),
             votes,
             judged: decided.judged,
-            alphas: units(&self.control),
+            alphas: self.control.counts(),
         }
     }
 }

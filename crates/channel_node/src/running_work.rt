@@ -1,8 +1,8 @@
 //! The work of a cycle.
-ghost use Rattle.std.specs.Prelude.{◌≡◌, true, length, Some, None, IfOk, IfErr, option_map};
+ghost use Rattle.std.specs.Prelude.{◌≡◌, length, Some, None, IfOk, IfErr, option_map};
 ghost use Rattle.std.specs.Option.{option_copied};
-ghost use Rattle.guards_model.specs.Missions.{is_rules, cycle_writes};
-ghost use Rattle.guards_nodes.specs.NodeStates.{DecidedValue, WorkedValue};
+ghost use Rattle.guards_model.specs.Missions.{cycle_writes};
+ghost use Rattle.guards_nodes.specs.NodeStates.{DecidedValue};
 ghost use Rattle.guards_nodes.specs.NodeSteps.{HasWorked};
 ghost use Rattle.sweep_round.specs.Trails.{trail_cycle, trail_steps};
 

@@ -1,5 +1,5 @@
 //! The tree of a member, with the members, the member itself and the width that it was begun for.
-ghost use Rattle.std.specs.Prelude.{◌≡◌, ◌≢◌, ◌<◌, ◌≤◌, ◌+◌, ◌-◌, ◌++◌, ◌==◌, ◌&&◌, pos, true, false, [], length, replicate, Some, None, IsTrue, IsOk, IfOk, OnOk, OnErr, option_map, nat_le};
+ghost use Rattle.std.specs.Prelude.{◌≡◌, ◌≢◌, ◌<◌, ◌≤◌, ◌+◌, ◌-◌, ◌++◌, ◌==◌, ◌&&◌, pos, true, false, [], length, replicate, Some, None, IsTrue, IsOk, IfOk, OnOk, OnErr, option_map};
 ghost use Rattle.std.specs.Option.{option_copied};
 ghost use Rattle.guards_model.specs.Channels.{Channel, has, place_or, tolerated_faults};
 ghost use Rattle.guards_model.specs.Frames.{exchange_body};
@@ -10,7 +10,6 @@ ghost use Rattle.guards_nodes.specs.NodeSteps.{Received, nothing_received, with_
 ghost use Rattle.oral_messages.specs.Received.{IsExchangeInRange, items_of_frame};
 ghost use Rattle.channel_node.specs.Trees.{IsTreeFor, word_from, has_places};
 
-use control_state::channel;
 use guards_base::{Chan, ChanSet, SourceWord};
 use icn_frames::Exchange;
 use oral_messages::Tree;
@@ -161,13 +160,13 @@ impl RoundTree {
         ensures passive { (q : Channel) → q < 7 → has self.now.active q ≡ false → place_or result q None ≡ None }
     {
         [
-            self.agreed_word(channel(0)),
-            self.agreed_word(channel(1)),
-            self.agreed_word(channel(2)),
-            self.agreed_word(channel(3)),
-            self.agreed_word(channel(4)),
-            self.agreed_word(channel(5)),
-            self.agreed_word(channel(6)),
+            self.agreed_word(Chan::of(0)),
+            self.agreed_word(Chan::of(1)),
+            self.agreed_word(Chan::of(2)),
+            self.agreed_word(Chan::of(3)),
+            self.agreed_word(Chan::of(4)),
+            self.agreed_word(Chan::of(5)),
+            self.agreed_word(Chan::of(6)),
         ]
     }
 

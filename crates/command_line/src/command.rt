@@ -35,6 +35,7 @@ impl Count {
         }
     }
 
+    /// The number.
     pub fn number(self) -> u16
         ensures value { result ≡ self }
         ensures within { (1 ≤ result) × (result ≤ 2000) }

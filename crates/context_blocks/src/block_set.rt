@@ -35,6 +35,7 @@ impl BlockSet {
         }
     }
 
+    /// Whether a block is in the set.
     pub fn has(&self, block: u8) -> bool
         ensures { result ≡ has self.now block }
     {

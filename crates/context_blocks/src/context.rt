@@ -50,6 +50,7 @@ impl Context {
         self.blocks.len() as u16
     }
 
+    /// A copy of a block, which the context has.
     pub fn get(&self, block: u8) -> Block
         requires { block < length self.now }
         ensures { slice_get self.now block ≡ Some result.words }

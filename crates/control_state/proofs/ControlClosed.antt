@@ -1,5 +1,5 @@
 -- The parts of a closed cycle make the control and the answer of the definition.
-use Rattle.std.proofs.Common.{◌≡◌, ℕ, List, length, Option, refl, sym, ap, ◌∙◌}
+use Rattle.std.proofs.Common.{◌≡◌, ℕ, List, length, Option, ap, ◌∙◌}
 use Rattle.std.specs.Prelude.{option_map}
 use Rattle.guards_model.specs.Channels.{ChannelSet, union, without}
 use Rattle.guards_model.specs.Diagnosis.{counts_carried}

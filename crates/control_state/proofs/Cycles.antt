@@ -1,8 +1,8 @@
 -- The tags of a transfer through the end of a cycle.
-use Rattle.std.proofs.Common.{◌≡◌, ℕ, List, [], ◌∷◌, Option, None, Some, ap, sym, ◌∙◌, subst}
+use Rattle.std.proofs.Common.{◌≡◌, ℕ, List, [], ◌∷◌, Option, Some, ap, sym, ◌∙◌, subst}
 use Rattle.guards_model.specs.Channels.{ChannelSet}
 use Rattle.guards_model.specs.Transfers.{TransferCycle}
-use Rattle.guards_model.specs.Tags.{TagsValue, StandFor, tags_of, tags_noted, tags_closed}
+use Rattle.guards_model.specs.Tags.{TagsValue, StandFor, tags_noted, tags_closed}
 use Rattle.guards_model.specs.Controls.{SweepingValue, tags_after, sweeping_after, goes_on}
 use Rattle.guards_model.proofs.TagSteps.{stand_noted, stand_closed}
 

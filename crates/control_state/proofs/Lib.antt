@@ -1,4 +1,4 @@
-pub mod SevenFlags
+pub mod Fronts
 pub mod WordsCounted
 pub mod RulesInRange
 pub mod Cycles

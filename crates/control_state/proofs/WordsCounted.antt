@@ -1,6 +1,6 @@
 -- Counting what the words tell.
-use Rattle.std.proofs.Common.{◌≡◌, ℕ, zero, suc, ◌+◌, ◌<◌, Bool, true, false, cond, List, [], ◌∷◌, length, get_or, Option, None, Some, refl, sym, ap, ◌∙◌, arith}
-use Rattle.std.specs.Prelude.{count_by, filter_map}
+use Rattle.std.proofs.Common.{◌≡◌, ℕ, zero, suc, ◌+◌, Bool, cond, List, [], ◌∷◌, get_or, None, Some, refl, sym, ap, ◌∙◌, arith}
+use Rattle.std.specs.Prelude.{count_by}
 use Rattle.guards_model.specs.Channels.{place_or}
 use Rattle.guards_model.specs.Frames.{SourceValue}
 use Rattle.guards_model.specs.Diagnosis.{Agreed}
@@ -25,9 +25,3 @@ pub number_at : (xs : List ℕ) (j : ℕ) → get_or xs j 0 ≡ place_or xs j 0
 number_at [] j = refl
 number_at (x ∷ xs) zero = refl
 number_at (x ∷ xs) (suc j) = number_at xs j
-
--- a place of a table by what stands there
-pub place_is : {A : Type 0} (table : List A) (j : ℕ) (r d x : A) → get_or table j r ≡ x → j < length table → place_or table j d ≡ x
-place_is [] j r d x e h = absurd (omega arith)
-place_is (y ∷ table) zero r d x e h = e
-place_is (y ∷ table) (suc j) r d x e h = place_is table j r d x e (omega arith)

@@ -7,7 +7,6 @@ ghost use Rattle.guards_model.specs.Transfers.{TransferCycle};
 
 use crate::control::{Closed, Control, Decision, Transfer};
 use crate::counting::carry;
-use crate::sets::{size, union, without};
 use context_blocks::BlockSet;
 use dirty_tags::Plan;
 use guards_base::{ChanSet, Rules};
@@ -57,7 +56,7 @@ fn rest(transfer: &Option<Transfer>, joined: ChanSet, last: u8) -> Plan
     match transfer {
         None => Plan::new(),
         Some(transfer) => {
-            if size(joined) == 0 {
+            if joined.count() == 0 {
                 Plan::new()
             } else {
                 transfer.tags.rest()
@@ -72,7 +71,13 @@ fn start_if_joined(transfer: &Option<Transfer>, joined: ChanSet) -> u32
 {
     match transfer {
         None => 0,
-        Some(transfer) => { if size(joined) == 0 { 0 } else { transfer.start } }
+        Some(transfer) => {
+            if joined.count() == 0 {
+                0
+            } else {
+                transfer.start
+            }
+        }
     }
 }
 
@@ -80,7 +85,7 @@ fn start_if_joined(transfer: &Option<Transfer>, joined: ChanSet) -> u32
 fn end_transfer(transfer: Option<Transfer>, joined: ChanSet) -> Option<Transfer>
     ensures { result ≡ goes_on joined transfer }
 {
-    if size(joined) == 0 { transfer } else { None }
+    if joined.count() == 0 { transfer } else { None }
 }
 
 impl Control {
@@ -112,7 +117,7 @@ impl Control {
             remaining: remaining(&self.transfer),
             rest: rest(&self.transfer, joined, rules.last),
         };
-        self.active = union(without(self.active, decision.removed), joined);
+        self.active = self.active.difference(decision.removed).union(joined);
         self.alphas = carry(&self.alphas, self.active, joined);
         self.fresh = joined;
         let transfer = self.transfer.take();

@@ -16,4 +16,3 @@ mod word;
 
 pub use control::{Closed, Control, Decision, Transfer};
 pub use guards_base::Rules;
-pub use sets::channel;

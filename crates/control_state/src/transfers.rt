@@ -1,6 +1,5 @@
 //! The transfer that goes on or starts.
-ghost use Rattle.std.specs.Prelude.{◌≡◌, ◌≤◌, ◌<◌, ◌+◌, ◌&&◌, ◌||◌, ◌==◌, [], Some, None, if◌then◌else◌};
-ghost use Rattle.guards_model.specs.Channels.{has, numbers_below};
+ghost use Rattle.std.specs.Prelude.{◌≡◌, ◌≤◌, ◌+◌, ◌&&◌, ◌||◌, ◌==◌, [], Some, None, if◌then◌else◌};
 ghost use Rattle.guards_model.specs.Diagnosis.{asks as is_asking, enough_heard as is_heard};
 ghost use Rattle.guards_model.specs.Transfers.{kept_targets, new_targets, transfer_to, start_of, transfer_after};
 ghost use Rattle.guards_model.specs.Decisions.{dropped_of};
@@ -9,31 +8,16 @@ ghost use Rattle.guards_model.specs.Tags.{tags_of};
 
 use crate::control::Transfer;
 use crate::counting::asks;
-use crate::sets::{lowest, size, without};
+use crate::sets::lowest;
 use crate::telling::enough_heard;
 use dirty_tags::Tags;
-use guards_base::{ChanSet, Rules, SourceWord};
+use guards_base::{Chan, ChanSet, Rules, SourceWord};
 
 // Whether a cycle is the one after a transfer's start.
 fn is_next(start: u32, cycle: u32) -> bool
     ensures { result ≡ (start + 1 == cycle) }
 {
     start < cycle && cycle - start == 1
-}
-
-// Whether a target stays, where it is one.
-fn is_stayer(
-    active: ChanSet,
-    agreed: &[Option<SourceWord>; 7],
-    next: bool,
-    member: bool,
-    q: u8,
-) -> bool
-    requires { q < 7 }
-    ensures { result ≡
-        (member && (is_heard active agreed.now 2 q || (next && is_heard active agreed.now 1 q))) }
-{
-    member && (enough_heard(active, agreed, 2, q) || (next && enough_heard(active, agreed, 1, q)))
 }
 
 // The targets that stay.
@@ -47,17 +31,15 @@ fn stayers(
     ensures { result ≡
         kept_targets active agreed.now cycle (Some (record { targets = targets; start = start })) }
 {
-    let members = targets.flags();
-    let next = is_next(start, cycle);
-    ChanSet::of_flags(&[
-        is_stayer(active, agreed, next, members[0], 0),
-        is_stayer(active, agreed, next, members[1], 1),
-        is_stayer(active, agreed, next, members[2], 2),
-        is_stayer(active, agreed, next, members[3], 3),
-        is_stayer(active, agreed, next, members[4], 4),
-        is_stayer(active, agreed, next, members[5], 5),
-        is_stayer(active, agreed, next, members[6], 6),
-    ])
+    targets.filter(
+        |c: Chan| -> bool
+            ensures { result ≡
+                (is_heard active agreed.entry.now 2 c || (start + 1 == cycle && is_heard active agreed.entry.now 1 c)) }
+        {
+            enough_heard(active, agreed, 2, c)
+                || (is_next(start, cycle) && enough_heard(active, agreed, 1, c))
+        },
+    )
 }
 
 /// The targets that the running transfer loses.
@@ -71,25 +53,11 @@ pub fn drop_targets(
 {
     match running {
         None => ChanSet::empty(),
-        Some(transfer) => without(
-            transfer.targets,
-            stayers(active, agreed, cycle, transfer.targets, transfer.start),
-        ),
+        Some(transfer) => {
+            let kept = stayers(active, agreed, cycle, transfer.targets, transfer.start);
+            transfer.targets.difference(kept)
+        }
     }
-}
-
-// Whether a passive channel asks.
-fn is_newcomer(
-    active: ChanSet,
-    fresh: ChanSet,
-    agreed: &[Option<SourceWord>; 7],
-    member: bool,
-    q: u8,
-) -> bool
-    requires { q < 7 }
-    ensures { result ≡ (member && is_asking active fresh agreed.now q) }
-{
-    member && asks(active, fresh, agreed, q)
 }
 
 // The lowest passive channels whose requests stand, and no more than the limit.
@@ -103,17 +71,12 @@ fn newcomers(
     requires limit { rules.now.returning ≤ 7 }
     ensures { result ≡ new_targets rules.now.channels rules.now.returning active fresh agreed.now }
 {
-    let passive = without(ChanSet::below(rules.channels), active);
-    let members = passive.flags();
-    let asking = ChanSet::of_flags(&[
-        is_newcomer(active, fresh, agreed, members[0], 0),
-        is_newcomer(active, fresh, agreed, members[1], 1),
-        is_newcomer(active, fresh, agreed, members[2], 2),
-        is_newcomer(active, fresh, agreed, members[3], 3),
-        is_newcomer(active, fresh, agreed, members[4], 4),
-        is_newcomer(active, fresh, agreed, members[5], 5),
-        is_newcomer(active, fresh, agreed, members[6], 6),
-    ]);
+    let passive = ChanSet::below(rules.channels).difference(active);
+    let asking = passive.filter(
+        |c: Chan| -> bool
+            ensures { result ≡ is_asking active fresh agreed.entry.now c }
+        { asks(active, fresh, agreed, c) },
+    );
     lowest(asking, rules.returning)
 }
 
@@ -149,7 +112,7 @@ fn go_on(
                 tags,
             } = transfer;
             let kept = stayers(active, agreed, cycle, targets, start);
-            if size(kept) == 0 {
+            if kept.count() == 0 {
                 None
             } else {
                 Some(Transfer {
@@ -168,7 +131,7 @@ fn start(targets: ChanSet, blocks: u16, cycle: u32) -> Option<Transfer>
     requires most { blocks ≤ 256 }
     ensures { result ≡ sweeping_for blocks cycle None (transfer_to targets cycle) }
 {
-    if size(targets) == 0 {
+    if targets.count() == 0 {
         None
     } else {
         Some(Transfer {

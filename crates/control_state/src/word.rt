@@ -47,6 +47,13 @@ fn alphas_of(units: &[u32; 7]) -> [Alpha; 7]
 }
 
 impl Control {
+    /// The alpha-counts in units of 1/65536, a place for each channel.
+    pub fn counts(&self) -> [u32; 7]
+        ensures { result ≡ self.now.counts }
+    {
+        units_of(&self.alphas)
+    }
+
     /// The control word of this control, with the law of the rules. The transfer is not in it.
     pub fn word(&self, rules: &Rules) -> ControlWord
         ensures { result ≡ word_of_control rules.now self.now }

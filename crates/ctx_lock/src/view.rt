@@ -2,6 +2,7 @@
 use guards_model::Actor;
 use std::collections::LinkedList;
 
+/// How far a seat has got.
 pub enum Stage {
     /// It does not have the turn.
     Waits,
@@ -11,6 +12,7 @@ pub enum Stage {
     Turns,
 }
 
+/// What a seat knows of the lock.
 pub struct View<O> {
     /// The value's origin, or `None` in a spent view.
     pub origin: Option<O>,

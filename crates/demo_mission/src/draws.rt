@@ -9,6 +9,7 @@ pub struct Draws {
 }
 
 impl Draws {
+    /// The draws that begin with this number.
     pub fn of(number: u64) -> Draws
         ensures { result.number ≡ number }
     {

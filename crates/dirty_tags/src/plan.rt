@@ -33,6 +33,7 @@ impl Plan {
         }
     }
 
+    /// The number of blocks, at most 64.
     pub fn len(&self) -> usize
         ensures value { result ≡ length self.now }
         ensures room { result ≤ 64 }
@@ -48,6 +49,7 @@ impl Plan {
         self.blocks.as_slice()[at]
     }
 
+    /// Lends the block numbers, in the order of the plan.
     pub fn as_slice(&self) -> &[u8]
         ensures value { result.now ≡ self.now }
         ensures room { length result.now ≤ 64 }

@@ -153,6 +153,7 @@ fn is_known(known: &[&str], key: &str) -> bool
     known.iter().any(|name| key == *name)
 }
 
+/// The integer of a value between two bounds, or the check that fails.
 pub fn integer_in(
     alloc: Global,
     value: &Value,
@@ -172,6 +173,7 @@ pub fn integer_in(
     }
 }
 
+/// The text that a value is, or the check that fails.
 pub fn text_of<'a>(alloc: Global, value: &'a Value, path: &str) -> Result<&'a str, ReadFault>
     ensures { Gives (λ text. text.now) result (text_of path.now (view value.now)) }
 {
@@ -181,6 +183,7 @@ pub fn text_of<'a>(alloc: Global, value: &'a Value, path: &str) -> Result<&'a st
     }
 }
 
+/// The table that a value is, or the check that fails.
 pub fn table_of<'a>(alloc: Global, value: &'a Value, path: &str) -> Result<&'a Table, ReadFault>
     ensures { Gives (λ fields. table_view fields.now) result (table_of path.now (view value.now)) }
 {
@@ -190,6 +193,7 @@ pub fn table_of<'a>(alloc: Global, value: &'a Value, path: &str) -> Result<&'a T
     }
 }
 
+/// The items of the array that a value is, or the check that fails.
 pub fn array_of<'a>(alloc: Global, value: &'a Value, path: &str) -> Result<&'a [Value], ReadFault>
     ensures { Gives (λ items. items_view items.now) result (array_of path.now (view value.now)) }
 {
@@ -199,6 +203,7 @@ pub fn array_of<'a>(alloc: Global, value: &'a Value, path: &str) -> Result<&'a [
     }
 }
 
+/// The integer that a value is, or the check that fails.
 pub fn integer_of(alloc: Global, value: &Value, path: &str) -> Result<i64, ReadFault>
     ensures { Gives (λ integer. integer) result (integer_of path.now (view value.now)) }
 {

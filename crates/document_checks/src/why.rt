@@ -25,6 +25,7 @@ pub struct Why {
     pub at: Option<u16>,
 }
 
+/// Why a document was not read.
 #[derive(Debug, Drop)]
 pub enum ReadFault {
     Bad(Why),

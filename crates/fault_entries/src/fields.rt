@@ -14,6 +14,7 @@ use hex::FromHexError;
 use std::alloc::Global;
 use toml::{Table, Value};
 
+/// The cycle of an entry, or the first of its checks that fails.
 #[tactic(auto, unfolding(crate::specs::FaultTexts::cycle_field))]
 pub fn cycle_field(alloc: Global, fields: &Table, path: &str) -> Result<u32, ReadFault>
     ensures { Gives (λ cycle. cycle) result (cycle_field path.now (table_view fields.now)) }
@@ -21,6 +22,7 @@ pub fn cycle_field(alloc: Global, fields: &Table, path: &str) -> Result<u32, Rea
     number(alloc, fields, path, "cycle", 0, u32::MAX)
 }
 
+/// A number below 256 under this key, or the first of its checks that fails.
 #[tactic(auto, unfolding(crate::specs::FaultTexts::byte_field))]
 pub fn byte_field(alloc: Global, fields: &Table, path: &str, key: &str) -> Result<u8, ReadFault>
     ensures { Gives (λ byte. byte) result (byte_field path.now key.now (table_view fields.now)) }
@@ -96,6 +98,7 @@ fn piece_of(alloc: Global, value: &Value, path: &str) -> Result<Bytes, ReadFault
     }
 }
 
+/// The bytes of a forged piece, or the first of its checks that fails.
 #[tactic(auto, unfolding(crate::specs::FaultTexts::piece_field))]
 pub fn piece_field(alloc: Global, fields: &Table, path: &str) -> Result<Bytes, ReadFault>
     ensures { Gives (λ piece. piece.items) result (piece_field path.now (table_view fields.now)) }

@@ -1,9 +1,9 @@
 -- One more entry that keeps its rules, the first that breaks one, and the end.
-use Rattle.std.proofs.Common.{◌≡◌, ◌<◌, ◌≤◌, ◌+◌, ℕ, List, [], ◌∷◌, length, map, get_or, drop, Option, Some, None, refl, sym, ap, subst, ◌∙◌}
+use Rattle.std.proofs.Common.{◌≡◌, ◌<◌, ◌≤◌, ◌+◌, ℕ, List, length, map, get_or, drop, Option, Some, None, refl, sym, ap, subst, ◌∙◌}
 use Rattle.std.proofs.lemmas.List.{drop_more}
 use Rattle.std.proofs.Math.ListN.{drop_of_length-le}
 use Rattle.guards_model.specs.ScriptFaults.{ScriptFaultValue, rules_of_entry, first_broken, or_later, entry_fault}
-use Rattle.fault_script.specs.Entries.{fault_value, Breaks, IsAnswer}
+use Rattle.fault_script.specs.Entries.{fault_value, Breaks}
 use Rattle.fault_script.specs.declared.script.Fault.{Fault}
 use Rattle.fault_script.specs.declared.script.ScriptFault.{ScriptFault}
 use Rattle.fault_script.specs.declared.script.ScriptFault.TheVariants as faults

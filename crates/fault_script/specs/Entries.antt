@@ -1,5 +1,5 @@
--- What the entries of a fault script, its faults and the standings of channels mean.
-use Rattle.std.specs.Prelude.{ℕ, Bool, true, false, nat_lt, slice_index_or, List, map, Option, Some, None, ◌≡◌}
+-- What the entries of a fault script, its faults and the modes of channels mean.
+use Rattle.std.specs.Prelude.{Bool, true, false, nat_lt, Option, Some, None, ◌≡◌, refl}
 use Rattle.guards_model.specs.Faults.{FaultValue, crash, restart, damage, bus}
 use Rattle.guards_model.specs.Slots.{slot_index}
 use Rattle.guards_model.specs.Modes.{ModeValue, up, down, waiting, joining}
@@ -10,8 +10,8 @@ use Rattle.fault_script.specs.declared.script.Fault.{Fault}
 use Rattle.fault_script.specs.declared.script.Fault.TheVariants as entries
 use Rattle.fault_script.specs.declared.script.ScriptFault.{ScriptFault}
 use Rattle.fault_script.specs.declared.script.ScriptFault.TheVariants as faults
-use Rattle.fault_script.specs.declared.ledger.LedgerMode.{LedgerMode}
-use Rattle.fault_script.specs.declared.ledger.LedgerMode.TheVariants as standings
+use Rattle.fault_script.specs.declared.ledger.CountedMode.{CountedMode}
+use Rattle.fault_script.specs.declared.ledger.CountedMode.TheVariants as counted
 
 abbrev pub fault_value : Fault → FaultValue
 fault_value (entries.Crash channel cycle slot) = crash channel cycle slot
@@ -49,15 +49,24 @@ abbrev pub IsAnswer : Option ScriptFault → Option ScriptFaultValue → Type 0
 IsAnswer None fault = fault ≡ None
 IsAnswer (Some answer) fault = Breaks answer fault
 
-abbrev pub standing_value : LedgerMode → ModeValue
-standing_value standings.Up = up
-standing_value standings.Down = down
-standing_value (standings.Waiting cycles) = waiting cycles
-standing_value standings.Joining = joining
+abbrev pub counted_value : CountedMode → ModeValue
+counted_value counted.Up = up
+counted_value counted.Down = down
+counted_value (counted.Waiting cycles) = waiting cycles
+counted_value counted.Joining = joining
 
--- the mode at a place of a table of seven
-abbrev pub standing_at : List LedgerMode → ℕ → ModeValue
-standing_at table q = standing_value (slice_index_or table q standings.Up)
+-- a mode as the ledger keeps it
+abbrev pub counted_of : ModeValue → CountedMode
+counted_of up = counted.Up
+counted_of down = counted.Down
+counted_of (waiting cycles) = counted.Waiting cycles
+counted_of joining = counted.Joining
+
+pub counted_back : (s : CountedMode) → counted_of (counted_value s) ≡ s
+counted_back counted.Up = refl
+counted_back counted.Down = refl
+counted_back (counted.Waiting cycles) = refl
+counted_back counted.Joining = refl
 
 -- the mode without how long a channel waits
 abbrev pub plain_mode : ModeValue → Mode

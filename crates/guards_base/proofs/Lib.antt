@@ -1,1 +1,2 @@
 mod PaddedWords
+pub mod EachChannel

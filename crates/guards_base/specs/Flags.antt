@@ -1,5 +1,5 @@
 -- The mask of the channels that pass a test, and the set that it stands for.
-use Rattle.std.proofs.Common.{◌≡◌, ℕ, ◌+◌, ◌<◌, ◌==◌, Bool, true, false, cond, ◌&&◌, List, [], ◌∷◌, refl, ap, sym, ◌∙◌, arith, if◌then◌else◌}
+use Rattle.std.proofs.Common.{◌≡◌, ℕ, ◌+◌, ◌<◌, Bool, true, false, cond, ◌&&◌, List, [], ◌∷◌, refl, sym, arith, if◌then◌else◌}
 use Rattle.std.specs.List.{list_all, range_with_len}
 use Rattle.guards_model.specs.Channels.{Channel, by_channel, channels_where, has, set_of_mask}
 use Rattle.guards_base.specs.Masks.{bit, has-set_of_mask, same_list, same_list-true, both}

@@ -1,7 +1,7 @@
 //! Channels and sets of channels.
 ghost use Rattle.std.specs.Prelude.{◌≡◌, ◌≤◌, ◌<◌, ◌/◌, ◌%◌, ◌^◌, ◌==◌, [], ◌∷◌, length, MatchOption};
 ghost use Rattle.guards_model.specs.Channels.{has, mask, numbers_below, set_of_mask, union, without};
-ghost use Rattle.guards_base.specs.Masks.{bit_count, mask_below, mask_with, mask_without};
+ghost use Rattle.guards_base.specs.Masks.{mask_below, mask_with, mask_without};
 
 use std::marker::Model;
 
@@ -36,6 +36,14 @@ impl Chan {
         } else {
             None
         }
+    }
+
+    /// The channel with this number.
+    pub fn of(number: u8) -> Chan
+        requires { number < 7 }
+        ensures { result ≡ number }
+    {
+        Chan { number }
     }
 
     /// The channel's number.
@@ -139,12 +147,14 @@ impl ChanSet {
         }
     }
 
+    /// Whether a channel is a member.
     pub fn has(&self, c: Chan) -> bool
         ensures { result ≡ has self.now c }
     {
         has_bit(self.bits, c.number)
     }
 
+    /// The members and this channel.
     pub fn with(self, c: Chan) -> ChanSet
         ensures { result ≡ union self (c ∷ []) }
     {
@@ -153,6 +163,7 @@ impl ChanSet {
         }
     }
 
+    /// The members but this channel.
     pub fn without(self, c: Chan) -> ChanSet
         ensures { result ≡ without self (c ∷ []) }
     {
@@ -163,7 +174,8 @@ impl ChanSet {
 
     /// The number of members.
     pub fn count(&self) -> u8
-        ensures { result ≡ length self.now }
+        ensures value { result ≡ length self.now }
+        ensures most { result ≤ 7 }
     {
         let bits = self.bits;
         bits % 2

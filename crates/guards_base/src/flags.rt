@@ -3,8 +3,7 @@ ghost use Rattle.std.specs.Prelude.{◌≡◌, ◌≤◌, ◌<◌, false, slice_
 ghost use Rattle.guards_model.specs.Channels.{by_channel, channels_where, has};
 ghost use Rattle.guards_base.specs.Flags.{mask_where};
 
-use crate::ChanSet;
-use crate::channel::has_bit;
+use crate::{Chan, ChanSet, flags_by};
 
 // What a channel adds to a mask.
 fn weight_if(flag: bool, weight: u8) -> u8
@@ -34,16 +33,8 @@ impl ChanSet {
         ensures value { result ≡ by_channel (has self.now) }
         ensures members { self.now ≡ channels_where (has self.now) }
     {
-        let bits = self.mask();
-        [
-            has_bit(bits, 0),
-            has_bit(bits, 1),
-            has_bit(bits, 2),
-            has_bit(bits, 3),
-            has_bit(bits, 4),
-            has_bit(bits, 5),
-            has_bit(bits, 6),
-        ]
+        let _mask = self.mask();
+        flags_by(|c: Chan| self.has(c))
     }
 
     /// The set of the channels whose flag is set.

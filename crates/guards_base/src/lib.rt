@@ -2,6 +2,7 @@
 #![tactic(auto)]
 
 mod channel;
+mod each_channel;
 mod flags;
 mod list;
 mod record;
@@ -12,6 +13,7 @@ mod text;
 mod word;
 
 pub use channel::{CHANNELS, Chan, ChanSet};
+pub use each_channel::{flags_by, set_by, table_by};
 pub use guards_model::{Law, Mode, Slot};
 pub use list::{Bytes, Numbers, Sequence, Words};
 pub use record::{ChannelLine, CycleRecord, Lines, TraceLine, Traces};

@@ -1,1 +1,2 @@
 pub mod SourceTaken
+pub mod WritesLemmas

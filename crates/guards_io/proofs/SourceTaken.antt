@@ -4,7 +4,8 @@ use Rattle.std.specs.Io.KnownBytes.{Consumes, Keeps}
 use Rattle.guards_io.specs.Causes.{Rose}
 use Rattle.guards_io.specs.declared.reading.ReadStop.{ReadStop}
 use Rattle.guards_io.specs.declared.reading.ReadStop.TheVariants.{Failed, TooLong, Memory}
-use Rattle.guards_io.specs.Stream.{SourceView, ReadsAll}
+use Rattle.guards_io.specs.Stream.{ReadsAll}
+use Rattle.guards_io.specs.Views.{SourceView}
 
 taken_then : (old between new : Option (List ℕ)) (front piece : List ℕ) → Consumes old between front → Consumes between new piece → Consumes old new (front ++ piece)
 taken_then None between new front piece first second = tt

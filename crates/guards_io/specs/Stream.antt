@@ -1,18 +1,11 @@
 -- What reading a source to its end does, whatever pieces it gives, where at most so many bytes are wanted.
-use Rattle.std.specs.Prelude.{◌≡◌, ◌≤◌, ◌+◌, ℕ, List, length, Option, Result, Ok, Err}
+use Rattle.std.specs.Prelude.{◌≡◌, ◌≤◌, ◌+◌, ℕ, List, length, Result, Ok, Err}
 use Rattle.std.specs.Io.KnownBytes.{Consumes, IsAtEnd}
 use Rattle.guards_base.specs.Seen.{Seen}
 use Rattle.guards_io.specs.Causes.{Rose}
+use Rattle.guards_io.specs.Views.{SourceView}
 use Rattle.guards_io.specs.declared.reading.ReadStop.{ReadStop}
 use Rattle.guards_io.specs.declared.reading.ReadStop.TheVariants.{Failed, TooLong, Memory}
-
--- What contracts see of a source: what it has left, and its count of faults.
-pub record SourceView : Type 0 where
-  pub left : Option (List ℕ)
-  pub faults : ℕ
-
-abbrev pub source_view : Option (List ℕ) → ℕ → SourceView
-source_view left faults = record { left = left; faults = faults }
 
 -- The bytes are all that was left. One byte too many was taken. The source failed before either. Memory ran out, and no more
 -- than that one byte too many was taken.

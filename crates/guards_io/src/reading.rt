@@ -1,8 +1,8 @@
 //! Reads a source to its end.
-ghost use Rattle.std.specs.Prelude.{◌≡◌, ◌≤◌, ◌<◌, ◌++◌, ◌^◌, ℕ, List, length, IfOk, OnErr, IsErrOf};
+ghost use Rattle.std.specs.Prelude.{◌≡◌, ◌≤◌, ◌<◌, ◌++◌, ◌^◌, ℕ, List, length, IfOk, IsErrOf};
 ghost use Rattle.std.specs.Io.KnownBytes.{Consumes, Keeps, IsAtEnd};
 ghost use Rattle.guards_io.specs.Causes.{Rose};
-ghost use Rattle.guards_io.specs.Stream.{ReadsAll, source_view};
+ghost use Rattle.guards_io.specs.Stream.{ReadsAll};
 
 use crate::traits::Source;
 use guards_base::Bytes;
@@ -25,14 +25,15 @@ pub enum ReadStop {
 fn read_piece<S: Source>(src: &mut S, most: usize, bytes: &mut Bytes) -> Result<usize, ReadStop>
     requires { 0 < most }
     ensures read { IfOk result (λ count. (piece : List ℕ) × (length piece ≡ count) × (count ≤ most)
-        × (bytes.new.items ≡ bytes.old.items ++ piece) × Consumes (S.left src.old) (S.left src.new) piece) }
-    ensures end { IfOk result (λ count. count ≡ 0 → IsAtEnd (S.left src.new)) }
-    ensures kept { IfOk result (λ _. S.faults src.new ≡ S.faults src.old) }
+        × (bytes.new.items ≡ bytes.old.items ++ piece) × Consumes (S.seen src.old).left (S.seen src.new).left piece) }
+    ensures end { IfOk result (λ count. count ≡ 0 → IsAtEnd (S.seen src.new).left) }
+    ensures kept { IfOk result (λ _. (S.seen src.new).faults ≡ (S.seen src.old).faults) }
     ensures failed { IsErrOf result ReadStop.Failed →
-        Keeps (S.left src.old) (S.left src.new) × Rose (S.faults src.old) (S.faults src.new) }
+        Keeps (S.seen src.old).left (S.seen src.new).left × Rose (S.seen src.old).faults (S.seen src.new).faults }
     ensures long { IsErrOf result ReadStop.TooLong → ⊥ }
     ensures short { IsErrOf result ReadStop.Memory → (piece : List ℕ) × (length piece ≤ most)
-        × Consumes (S.left src.old) (S.left src.new) piece × (S.faults src.new ≡ S.faults src.old) }
+        × Consumes (S.seen src.old).left (S.seen src.new).left piece
+        × ((S.seen src.new).faults ≡ (S.seen src.old).faults) }
 {
     let mut buf = [0; PIECE];
     let room = most.min(PIECE);
@@ -48,8 +49,7 @@ fn read_piece<S: Source>(src: &mut S, most: usize, bytes: &mut Bytes) -> Result<
 /// Reads all that the source has left, where that is no more than so many bytes.
 pub fn read_all<S: Source>(alloc: Global, src: &mut S, limit: usize) -> Result<Bytes, ReadStop>
     requires { limit < 2 ^ 32 }
-    ensures { ReadsAll limit (source_view (S.left src.old) (S.faults src.old))
-        (source_view (S.left src.new) (S.faults src.new)) result }
+    ensures { ReadsAll limit (S.seen src.old) (S.seen src.new) result }
 {
     let mut bytes = Bytes::new(alloc);
     while bytes.len() <= limit {

@@ -9,7 +9,7 @@ use Rattle.guards_model.specs.Channels.{Channel, has}
 use Rattle.guards_model.specs.Contexts.{ContextValue}
 use Rattle.guards_model.specs.Missions.{MissionValue}
 use Rattle.guards_model.specs.BusRules.{RuleValue}
-use Rattle.guards_model.specs.Network.{EntryValue, Log}
+use Rattle.guards_model.specs.Network.{EntryValue, Log, BusValue}
 use Rattle.guards_model.specs.Rounds.{IsFull, Steps, steps_of}
 use Rattle.guards_model.specs.Texts.{LineValue, RecordValue, StopValue}
 use Rattle.guards_model.specs.Records.{shown}
@@ -23,11 +23,6 @@ use Rattle.guards_nodes.specs.NodeStates.{NodeValue, WorkedValue, running_or_non
 use Rattle.guards_world.specs.Worlds.{WorldValue, HaltValue, disturbed, no_memory, StandsForWorld, last_entries}
 
 -- ---- the bus
-
--- what contracts see of a bus: the log of what it carried, and the rules of its script
-pub record BusValue : Type 0 where
-  pub log : Log
-  pub script : List RuleValue
 
 -- these entries were carried, each as the bus may
 pub record Carries (may : List RuleValue → EntryValue → Type 0) (old new : BusValue) (now : Log) : Type 0 where

@@ -1,13 +1,10 @@
--- What contracts see of the two kinds of bus.
+-- What contracts see of a bus in memory.
 use Rattle.std.specs.Prelude.{ℕ, List, Option, Some, None, unwrap_or, slice_get}
 use Rattle.guards_model.specs.BusRules.{RuleValue, ActValue}
 use Rattle.guards_model.specs.Network.{Log}
 use Rattle.guards_model.specs.ScriptedBus.{delivered_piece}
 
-pub record ScriptBusValue : Type 0 where
-  pub log : Log
-  pub script : List RuleValue
-
+-- a bus whose acts are listed: what is done to each carry in its turn
 pub record MemBusValue : Type 0 where
   pub log : Log
   pub script : List RuleValue

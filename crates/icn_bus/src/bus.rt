@@ -1,5 +1,5 @@
 //! What a bus carries, and what each bus promises.
-ghost use Rattle.std.specs.Prelude.{◌≡◌, ◌++◌, [], ◌∷◌, ⊤, IfOk, OnOk, OnErr, option_map};
+ghost use Rattle.std.specs.Prelude.{◌≡◌, ◌++◌, [], ◌∷◌, IfOk, OnOk, OnErr, option_map};
 ghost use Rattle.guards_model.specs.Network.{EntryValue};
 ghost use Rattle.guards_model.specs.ScriptedBus.{delivered_piece};
 ghost use Rattle.icn_bus.specs.Acts.{act_value};
@@ -74,22 +74,20 @@ impl Model for Rule {
 pub trait Bus {
     ghost use Rattle.std.specs.Prelude.{List};
     ghost use Rattle.guards_model.specs.BusRules.{RuleValue};
-    ghost use Rattle.guards_model.specs.Network.{EntryValue, Log};
+    ghost use Rattle.guards_model.specs.Network.{BusValue, EntryValue};
     ghost use Rattle.icn_bus.specs.Carrying.{Adds};
 
-    // what was carried, the earliest first
-    ghost log: { Self → Log };
-
-    ghost script: { Self → List RuleValue };
+    // what was carried, the earliest first, and the script
+    ghost seen: { Self → BusValue };
 
     // whether this kind of bus may make the entry, under the script
     ghost may: { List RuleValue → EntryValue → Type 0 };
 
     /// Replaces the script. The log stays, and for want of memory the script does too.
     fn load(&mut self, rules: &[Rule]) -> Result<(), AllocError>
-        ensures loaded { OnOk result (script self.new ≡ rules.now) }
-        ensures refused { OnErr result (script self.new ≡ script self.old) }
-        ensures log { log self.new ≡ log self.old };
+        ensures loaded { OnOk result ((seen self.new).script ≡ rules.now) }
+        ensures refused { OnErr result ((seen self.new).script ≡ (seen self.old).script) }
+        ensures log { (seen self.new).log ≡ (seen self.old).log };
 
     /// Carries a piece, and answers what was delivered of it. For want of memory the log stays.
     fn carry(
@@ -100,10 +98,10 @@ pub trait Bus {
         to: u8,
         sent: &[u8],
     ) -> Result<Option<Bytes>, AllocError>
-        ensures carried { IfOk result (λ answer. Adds may (script self.old) (log self.old) (log self.new)
+        ensures carried { IfOk result (λ answer. Adds may (seen self.old).script (seen self.old).log (seen self.new).log
             cycle slot from to sent.now (option_map (λ piece. piece.items) answer)) }
-        ensures refused { OnErr result (log self.new ≡ log self.old) }
-        ensures script { script self.new ≡ script self.old };
+        ensures refused { OnErr result ((seen self.new).log ≡ (seen self.old).log) }
+        ensures script { (seen self.new).script ≡ (seen self.old).script };
 
     /// Carries a piece likewise. A bus that knows that it was delivered as sent may answer so without its bytes.
     fn pass(
@@ -114,10 +112,10 @@ pub trait Bus {
         to: u8,
         sent: &[u8],
     ) -> Result<Delivery, AllocError>
-        ensures carried { IfOk result (λ answer. Adds may (script self.old) (log self.old) (log self.new)
+        ensures carried { IfOk result (λ answer. Adds may (seen self.old).script (seen self.old).log (seen self.new).log
             cycle slot from to sent.now (delivery_value sent.now answer)) }
-        ensures refused { OnErr result (log self.new ≡ log self.old) }
-        ensures script { script self.new ≡ script self.old }
+        ensures refused { OnErr result ((seen self.new).log ≡ (seen self.old).log) }
+        ensures script { (seen self.new).script ≡ (seen self.old).script }
     {
         match self.carry(cycle, slot, from, to, sent)? {
             None => Ok(Delivery::Lost),

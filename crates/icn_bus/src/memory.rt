@@ -1,5 +1,5 @@
 //! The bus that acts on pieces by their number, for tests.
-ghost use Rattle.std.specs.Prelude.{◌≡◌, ◌++◌, [], ◌∷◌, ⊤, length, map, IfOk, OnOk, OnErr, option_map};
+ghost use Rattle.std.specs.Prelude.{◌≡◌, [], ⊤, length, map, IfOk, OnOk, OnErr, option_map};
 ghost use Rattle.icn_bus.specs.Acts.{act_value};
 ghost use Rattle.icn_bus.specs.Buses.{by_act, act_in_turn};
 ghost use Rattle.icn_bus.specs.Carrying.{Adds};
@@ -75,9 +75,7 @@ fn delivered_in_turn(
 }
 
 impl Bus for MemBus {
-    ghost log = { λ bus. bus.log };
-
-    ghost script = { λ bus. bus.script };
+    ghost seen = { λ bus. record { log = bus.log; script = bus.script } };
 
     ghost may = { λ _ _. ⊤ };
 

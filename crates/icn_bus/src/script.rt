@@ -1,5 +1,5 @@
 //! The bus that delivers what was sent, except where a rule fits.
-ghost use Rattle.std.specs.Prelude.{◌≡◌, [], IfOk, OnOk, OnErr, option_map};
+ghost use Rattle.std.specs.Prelude.{◌≡◌, [], IfOk, option_map};
 ghost use Rattle.guards_model.specs.ScriptedBus.{delivered_by};
 ghost use Rattle.icn_bus.specs.Deliveries.{delivery_value};
 
@@ -19,9 +19,9 @@ pub struct ScriptBus {
 }
 
 impl Model for ScriptBus {
-    ghost use Rattle.icn_bus.specs.Buses.{ScriptBusValue};
+    ghost use Rattle.guards_model.specs.Network.{BusValue};
 
-    ghost Value = { ScriptBusValue };
+    ghost Value = { BusValue };
 
     ghost view = { λ bus. record { log = bus.log.items; script = bus.rules } };
 }
@@ -94,9 +94,7 @@ fn passed_of(
 impl Bus for ScriptBus {
     ghost use Rattle.guards_model.specs.ScriptedBus.{IsScripted};
 
-    ghost log = { λ bus. bus.log };
-
-    ghost script = { λ bus. bus.script };
+    ghost seen = { λ bus. bus };
 
     ghost may = { IsScripted };
 

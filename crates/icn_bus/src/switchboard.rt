@@ -1,10 +1,10 @@
 //! The switches of the channels' transmitters.
-ghost use Rattle.std.specs.Prelude.{◌≡◌, ◌≤◌, ◌&&◌, count_by};
-ghost use Rattle.guards_model.specs.Channels.{has, every_channel};
+ghost use Rattle.std.specs.Prelude.{◌≡◌, filter};
+ghost use Rattle.guards_model.specs.Channels.{channels_where};
 ghost use Rattle.guards_model.specs.Switchboard.{switched_on};
 ghost use Rattle.icn_bus.specs.Senders.{sent_with, is_kept};
 
-use guards_base::{Chan, ChanSet};
+use guards_base::{Chan, ChanSet, set_by};
 use std::marker::Model;
 
 /// The switches, seen as the set of those that are on.
@@ -31,48 +31,37 @@ fn sent(frames: &[Option<ChanSet>; 7], sender: Chan, channel: Chan) -> bool
     }
 }
 
-/// How many of the channels that are on sent a set with this one.
-#[tactic(auto, using(crate::proofs::Switches::one_sender_more, crate::proofs::Switches::no_sender_more))]
-fn senders(on: &ChanSet, frames: &[Option<ChanSet>; 7], channel: Chan) -> u8
-    ensures count { result ≡ count_by (λ j. has on.now j && sent_with frames.now channel j) every_channel }
-    ensures bound { result ≤ 7 }
+/// The channels that are on and sent a set with this one.
+fn senders(on: ChanSet, frames: &[Option<ChanSet>; 7], channel: Chan) -> ChanSet
+    ensures { result ≡ filter (sent_with frames.now channel) on }
 {
-    let mut count = 0;
-    for number in 0..7 {
-        if let Some(sender) = Chan::new(number) {
-            if on.has(sender) && sent(frames, sender, channel) {
-                count += 1;
-            }
-        }
-    }
-    count
+    on.filter(
+        |sender: Chan| -> bool
+            ensures { result ≡ sent_with frames.entry.now channel sender }
+        { sent(frames, sender, channel) },
+    )
 }
 
 /// Whether strictly more than half of the channels that are on sent a set with this one.
-#[tactic(auto, unfolding(crate::specs::Senders::is_kept))]
-fn stays(on: &ChanSet, frames: &[Option<ChanSet>; 7], channel: Chan) -> bool
-    ensures { result ≡ is_kept on.now frames.now channel }
+fn stays(on: ChanSet, frames: &[Option<ChanSet>; 7], channel: Chan) -> bool
+    ensures { result ≡ is_kept on frames.now channel }
 {
-    on.count() < 2 * senders(on, frames, channel)
+    on.count() < 2 * senders(on, frames, channel).count()
 }
 
 /// The switches that stay on.
-fn kept(on: &ChanSet, frames: &[Option<ChanSet>; 7]) -> ChanSet
-    ensures { result ≡ switched_on on.now frames.now }
+fn kept(on: ChanSet, frames: &[Option<ChanSet>; 7]) -> ChanSet
+    ensures { result ≡ channels_where (is_kept on frames.now) }
 {
-    let _mask = on.mask();
-    let mut kept = ChanSet::empty();
-    for number in 0..7 {
-        if let Some(channel) = Chan::new(number) {
-            if stays(on, frames, channel) {
-                kept = kept.with(channel);
-            }
-        }
-    }
-    kept
+    set_by(
+        |channel: Chan| -> bool
+            ensures { result ≡ is_kept on frames.entry.now channel }
+        { stays(on, frames, channel) },
+    )
 }
 
 impl Switchboard {
+    /// The switchboard with these switches on.
     pub fn new(on: ChanSet) -> Switchboard
         ensures { result ≡ on }
     {
@@ -92,7 +81,7 @@ impl Switchboard {
         ensures new { self.new ≡ switched_on self.old frames.now }
         ensures answer { result ≡ self.new }
     {
-        self.on = kept(&self.on, frames);
+        self.on = kept(self.on, frames);
         self.on
     }
 }

@@ -39,6 +39,7 @@ impl<'a> Reader<'a> {
         Reader { rest: bytes }
     }
 
+    /// Whether no byte is left.
     pub fn is_at_end(&self) -> bool
         ensures { result ≡ (length self.now == 0) }
     {
@@ -61,6 +62,7 @@ impl<'a> Reader<'a> {
 }
 
 impl Reader<'_> {
+    /// Reads a byte.
     pub fn byte(&mut self) -> Result<u8, Unread>
         ensures { GivesRead (λ byte. (byte, self.new)) result (byte_at self.old) }
     {
@@ -85,6 +87,7 @@ impl Reader<'_> {
         Ok(number)
     }
 
+    /// Reads a number of four bytes, the highest first.
     #[tactic(auto, using(crate::proofs::BigEndian::big_number_4))]
     pub fn u32(&mut self) -> Result<u32, Unread>
         ensures { GivesRead (λ number. (number, self.new)) result (number_at w32 self.old) }
@@ -119,6 +122,7 @@ impl Reader<'_> {
         Ok(())
     }
 
+    /// Reads the number of a channel, 0 to 6.
     #[tactic(auto, unfolding(guards_model::specs::Fields::channel_at))]
     pub fn channel(&mut self) -> Result<Chan, Unread>
         ensures { GivesRead (λ channel. (channel, self.new)) result (channel_at self.old) }
@@ -129,6 +133,7 @@ impl Reader<'_> {
         }
     }
 
+    /// Reads a set of channels by its mask.
     #[tactic(auto, unfolding(guards_model::specs::Fields::set_at), using(crate::proofs::Sets::set_is_read))]
     pub fn set(&mut self) -> Result<ChanSet, Unread>
         ensures { GivesRead (λ set. (set, self.new)) result (set_at self.old) }
@@ -283,6 +288,7 @@ impl Reader<'_> {
         self.law()
     }
 
+    /// Reads a control word as this version spells it.
     #[tactic(auto, unfolding(guards_model::specs::Fields::control_at))]
     pub fn control(&mut self, version: u8) -> Result<ControlWord, Unread>
         ensures { GivesRead (λ control. (control, self.new)) result (control_at version self.old) }
@@ -320,6 +326,7 @@ impl Reader<'_> {
         Ok(items)
     }
 
+    /// Reads the items of an exchange frame of this sender and round.
     #[tactic(auto, unfolding(guards_model::specs::Fields::items_at, guards_model::specs::Fields::counted_by))]
     pub fn items(&mut self, alloc: Global, sender: Chan, round: u8) -> Result<Items, Unread>
         requires low { 1 ≤ round }
@@ -349,6 +356,7 @@ impl Reader<'_> {
         Ok(copies)
     }
 
+    /// Reads the copies of a sweep frame, of different blocks.
     #[tactic(auto, unfolding(guards_model::specs::Fields::swept_copies_at, guards_model::specs::Fields::counted_by))]
     pub fn swept_copies(&mut self, alloc: Global) -> Result<Copies, Unread>
         ensures { GivesRead (λ copies. (copies.items, self.new)) result (swept_copies_at self.old) }
@@ -364,6 +372,7 @@ impl Reader<'_> {
         Ok(copies)
     }
 
+    /// Reads the copies of a final frame, in ascending order of their blocks.
     #[tactic(auto, unfolding(guards_model::specs::Fields::final_copies_at, guards_model::specs::Fields::counted_by))]
     pub fn final_copies(&mut self, alloc: Global) -> Result<Copies, Unread>
         ensures { GivesRead (λ copies. (copies.items, self.new)) result (final_copies_at self.old) }
@@ -389,6 +398,7 @@ impl Reader<'_> {
         Ok(words)
     }
 
+    /// Reads a ballot of 1 to 8 words.
     #[tactic(auto, unfolding(guards_model::specs::Fields::counted_by))]
     pub fn ballot(&mut self) -> Result<Ballot, Unread>
         ensures { GivesRead (λ ballot. (ballot, self.new)) result (counted_by (between 1 8) word_at self.old) }

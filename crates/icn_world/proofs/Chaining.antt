@@ -3,14 +3,14 @@
 use Rattle.std.proofs.Common.{◌≡◌, ℕ, ◌+◌, List, [], ◌++◌, length, Result, Ok, Err, refl, sym, ap, subst, ◌∙◌, arith}
 use Rattle.std.proofs.lemmas.List.{append-nil, append_assoc, length-append}
 use Rattle.guards_model.specs.BusRules.{RuleValue}
-use Rattle.guards_model.specs.Network.{EntryValue, Log}
+use Rattle.guards_model.specs.Network.{EntryValue, Log, BusValue}
 use Rattle.guards_model.specs.Rounds.{Steps}
 use Rattle.guards_model.specs.Missions.{MissionValue}
 use Rattle.guards_model.proofs.Membership.{All-append}
 use Rattle.std.specs.List.{AllByRecursion}
 use Rattle.std.specs.Result.{IsErrAnd}
 use Rattle.guards_world.specs.Worlds.{WorldValue}
-use Rattle.guards_world.specs.WorldCycle.{BusValue, Carries}
+use Rattle.guards_world.specs.WorldCycle.{Carries}
 use Rattle.world_laws.specs.Fronts.{IsRunFront}
 use Rattle.fault_script.specs.declared.disturbance.Disturbance.{Disturbance}
 use Rattle.icn_world.specs.declared.world.Halt.{Halt}

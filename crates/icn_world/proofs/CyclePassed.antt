@@ -9,7 +9,7 @@ use Rattle.guards_model.specs.Decisions.{DecisionValue}
 use Rattle.guards_model.specs.Ledgers.{LedgerValue, mode_of}
 use Rattle.guards_model.specs.Modes.{is_up}
 use Rattle.guards_model.specs.Missions.{MissionValue}
-use Rattle.guards_model.specs.Network.{EntryValue, Log}
+use Rattle.guards_model.specs.Network.{EntryValue, Log, BusValue}
 use Rattle.guards_model.specs.Rounds.{Steps, steps_of}
 use Rattle.guards_model.specs.Texts.{LineValue, TraceValue, RecordValue}
 use Rattle.guards_model.specs.Records.{shown, transfer_of_pair}
@@ -22,7 +22,7 @@ use Rattle.guards_runs.specs.SlotFacts.{AreFromPlace}
 use Rattle.guards_laws.proofs.CycleParts.{active-is}
 use Rattle.guards_world.specs.Worlds.{WorldValue, HaltValue, disturbed, no_memory, last_entries}
 use Rattle.guards_world.specs.InCycle.{InCycle}
-use Rattle.guards_world.specs.WorldCycle.{BusValue, Carries, Ends, IsLinePadded, MayCycle}
+use Rattle.guards_world.specs.WorldCycle.{Carries, Ends, IsLinePadded, MayCycle}
 use Rattle.guards_world.specs.Passing.{world_after}
 use Rattle.world_laws.specs.Fronts.{IsRunFront, IsUpToStop, CarriesUpToStop}
 use Rattle.world_laws.specs.Staying.{RoundsStay, VoteStays}

@@ -22,7 +22,7 @@ use Rattle.guards_model.proofs.Numbers.{sublists, every_set}
 use Rattle.guards_model.proofs.NumbersBelow.{below_there}
 use Rattle.guards_model.proofs.AscendingLists.{set-filter, set_parts}
 use Rattle.guards_model.proofs.Tables.{at-by_channel, has-filter}
-use Rattle.icn_bus.proofs.Switches.{where_same}
+use Rattle.guards_base.proofs.EachChannel.{sets_alike}
 use Rattle.guards_runs.specs.Cycles.{Past, Cycle, received_body, cycles_before, cycle_at, mode_in, active_set}
 use Rattle.guards_runs.specs.Report.{line_of}
 use Rattle.guards_runs.specs.Report as report
@@ -62,7 +62,7 @@ same_filter : (t : Channel → Bool) (a b : ChannelSet) → is_set a ≡ true �
     ((q : Channel) → q < 7 → t q ≡ true → has a q ≡ has b q) → filter t a ≡ filter t b
 same_filter t a b of_a of_b same =
     sym (as_where (filter t a) (set-filter t a of_a))
-    ∙ where_same (λ q. has (filter t a) q) (λ q. has (filter t b) q)
+    ∙ sets_alike (λ q. has (filter t a) q) (λ q. has (filter t b) q)
     (λ q low. has-filter t a q ∙ same_where (t q) (has a q) (has b q) (same q low) ∙ sym (has-filter t b q))
     ∙ as_where (filter t b) (set-filter t b of_b)
 

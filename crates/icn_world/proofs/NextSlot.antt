@@ -4,10 +4,9 @@ use Rattle.guards_model.specs.declared.Slot.{Slot}
 use Rattle.guards_model.specs.declared.Slot.TheVariants.{Round3, Tasks}
 use Rattle.guards_model.specs.Slots.{slot_index, up_to}
 use Rattle.guards_model.specs.BusRules.{RuleValue}
-use Rattle.guards_model.specs.Network.{EntryValue, Log}
+use Rattle.guards_model.specs.Network.{EntryValue, Log, BusValue}
 use Rattle.guards_model.specs.Rounds.{Steps}
 use Rattle.guards_world.specs.Worlds.{WorldValue}
-use Rattle.guards_world.specs.WorldCycle.{BusValue}
 use Rattle.fault_script.specs.declared.disturbance.Disturbance.{Disturbance}
 use Rattle.slot_traffic.specs.Pieces.{ArrivedValue}
 use Rattle.icn_world.specs.declared.world.Halt.{Halt}

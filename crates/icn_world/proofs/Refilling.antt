@@ -6,14 +6,13 @@ use Rattle.guards_model.specs.declared.Slot.TheVariants.{Vote, Sweep, Final, Swi
 use Rattle.guards_model.specs.BusRules.{RuleValue}
 use Rattle.guards_model.specs.Channels.{Channel, ChannelSet, has, by_channel}
 use Rattle.guards_model.specs.Missions.{MissionValue}
-use Rattle.guards_model.specs.Network.{EntryValue, Log, switchboard}
+use Rattle.guards_model.specs.Network.{EntryValue, Log, switchboard, BusValue}
 use Rattle.guards_model.specs.Rounds.{Steps}
 use Rattle.guards_model.specs.Switchboard.{set_of}
 use Rattle.guards_runs.specs.Cycles.{cycle_at}
 use Rattle.guards_runs.specs.ControlFacts.{closed_of}
 use Rattle.guards_world.specs.Worlds.{WorldValue, facts_in}
 use Rattle.guards_world.specs.InCycle.{InCycle}
-use Rattle.guards_world.specs.WorldCycle.{BusValue}
 use Rattle.control_state.specs.declared.control.Closed.{Closed}
 use Rattle.channel_node.specs.Closing.{closed_value}
 use Rattle.fault_script.specs.declared.disturbance.Disturbance.{Disturbance}

@@ -4,11 +4,10 @@ use Rattle.std.specs.Result.{IsErrAnd}
 use Rattle.guards_model.specs.declared.Slot.{Slot}
 use Rattle.guards_model.specs.Slots.{slot_index, on_bus}
 use Rattle.guards_model.specs.BusRules.{RuleValue}
-use Rattle.guards_model.specs.Network.{EntryValue, Log}
+use Rattle.guards_model.specs.Network.{EntryValue, Log, BusValue}
 use Rattle.guards_model.specs.Rounds.{Steps}
 use Rattle.guards_world.specs.Worlds.{WorldValue}
 use Rattle.guards_world.specs.InCycle.{InCycle}
-use Rattle.guards_world.specs.WorldCycle.{BusValue}
 use Rattle.fault_script.specs.declared.disturbance.Disturbance.{Disturbance}
 use Rattle.slot_traffic.specs.Pieces.{ArrivedValue}
 use Rattle.icn_world.specs.declared.world.Halt.{Halt}

@@ -8,14 +8,14 @@ use Rattle.guards_model.specs.Slots.{slot_index}
 use Rattle.guards_model.specs.BusRules.{RuleValue}
 use Rattle.guards_model.specs.Channels.{Channel, ChannelSet, has, union, every_channel, channels_where}
 use Rattle.guards_model.specs.Missions.{FormatValue, format_of}
-use Rattle.guards_model.specs.Network.{EntryValue, Log, TrafficValue}
+use Rattle.guards_model.specs.Network.{EntryValue, Log, BusValue, TrafficValue}
 use Rattle.guards_model.specs.Ledgers.{disturbed_by, limit_reached}
 use Rattle.guards_model.specs.Rounds.{Steps}
 use Rattle.guards_model.proofs.Tables.{has-channels_where}
 use Rattle.guards_runs.specs.Disturbed.{is_charge}
 use Rattle.guards_runs.specs.Due.{slot_carries}
 use Rattle.guards_world.specs.Worlds.{WorldValue, facts_in}
-use Rattle.guards_world.specs.WorldCycle.{BusValue, Carries}
+use Rattle.guards_world.specs.WorldCycle.{Carries}
 use Rattle.guards_world.specs.Passing.{world_carried}
 use Rattle.world_laws.specs.Fronts.{IsRunFront}
 use Rattle.slot_traffic.specs.Pieces.{ArrivedValue}

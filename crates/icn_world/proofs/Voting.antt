@@ -2,14 +2,13 @@
 use Rattle.std.proofs.Common.{◌≡◌, List, ◌++◌, Ok, Err, refl, sym, subst, arith}
 use Rattle.guards_model.specs.declared.Slot.TheVariants.{Tasks, Vote, Sweep}
 use Rattle.guards_model.specs.BusRules.{RuleValue}
-use Rattle.guards_model.specs.Network.{EntryValue, Log}
+use Rattle.guards_model.specs.Network.{EntryValue, Log, BusValue}
 use Rattle.guards_model.specs.Rounds.{Steps}
 use Rattle.guards_model.specs.Texts.{LineValue}
 use Rattle.guards_base.specs.Seen.{Seen}
 use Rattle.guards_runs.specs.Cycles.{cycle_at}
 use Rattle.guards_world.specs.Worlds.{WorldValue}
 use Rattle.guards_world.specs.InCycle.{InCycle}
-use Rattle.guards_world.specs.WorldCycle.{BusValue}
 use Rattle.fault_script.specs.declared.disturbance.Disturbance.{Disturbance}
 use Rattle.slot_traffic.specs.Pieces.{ArrivedValue}
 use Rattle.guards_world.specs.Arrivals.{AreArrivals, HaveWorked}

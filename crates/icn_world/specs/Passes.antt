@@ -1,10 +1,10 @@
 -- What a pass of one cycle does. This project's own.
 use Rattle.std.specs.Prelude.{◌≡◌, ◌<◌, ◌+◌, List, length, Some, None, Result, Ok, Err}
 use Rattle.guards_model.specs.BusRules.{RuleValue}
-use Rattle.guards_model.specs.Network.{EntryValue, Log}
+use Rattle.guards_model.specs.Network.{EntryValue, Log, BusValue}
 use Rattle.guards_model.specs.Texts.{RecordValue}
 use Rattle.guards_world.specs.Worlds.{WorldValue, HaltValue, no_memory, StandsForWorld}
-use Rattle.guards_world.specs.WorldCycle.{BusValue, Carries, Ends}
+use Rattle.guards_world.specs.WorldCycle.{Carries, Ends}
 use Rattle.world_laws.specs.Fronts.{IsUpToStop}
 
 -- a world that may pass a cycle, by a log that stands for it

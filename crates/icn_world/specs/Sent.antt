@@ -4,11 +4,11 @@ use Rattle.std.specs.List.{AllZip}
 use Rattle.guards_model.specs.declared.Slot.{Slot}
 use Rattle.guards_model.specs.Slots.{slot_index}
 use Rattle.guards_model.specs.BusRules.{RuleValue}
-use Rattle.guards_model.specs.Network.{EntryValue, Log, TrafficValue}
+use Rattle.guards_model.specs.Network.{EntryValue, Log, BusValue, TrafficValue}
 use Rattle.guards_model.specs.Rounds.{Steps}
 use Rattle.guards_world.specs.NodeFacts.{received_through}
 use Rattle.guards_world.specs.Worlds.{WorldValue, past_in, facts_in}
-use Rattle.guards_world.specs.WorldCycle.{BusValue, Carries}
+use Rattle.guards_world.specs.WorldCycle.{Carries}
 use Rattle.guards_world.specs.Passing.{world_carried}
 use Rattle.guards_world.specs.NodeLists.{AllReceived}
 use Rattle.guards_world.specs.SlotSends.{IsEntryOf, all_sends}

@@ -7,14 +7,14 @@ use Rattle.guards_model.specs.declared.Slot.TheVariants.{Tasks, Switch}
 use Rattle.guards_model.specs.Slots.{slot_index, on_bus}
 use Rattle.guards_model.specs.Channels.{Channel, has}
 use Rattle.guards_model.specs.BusRules.{RuleValue}
-use Rattle.guards_model.specs.Network.{EntryValue, Log}
+use Rattle.guards_model.specs.Network.{EntryValue, Log, BusValue}
 use Rattle.guards_model.specs.Rounds.{Steps}
 use Rattle.guards_model.specs.Texts.{StopValue}
 use Rattle.guards_runs.specs.Disturbed.{is_charge, stop_in}
 use Rattle.guards_runs.specs.Due.{receivers}
 use Rattle.guards_world.specs.Worlds.{WorldValue, HaltValue, disturbed, no_memory, StandsForWorld, past_in, facts_in}
 use Rattle.guards_world.specs.InCycle.{InCycle}
-use Rattle.guards_world.specs.WorldCycle.{BusValue, Carries, AreFull}
+use Rattle.guards_world.specs.WorldCycle.{Carries, AreFull}
 use Rattle.guards_world.specs.Passing.{IsStopIn}
 use Rattle.world_laws.specs.Fronts.{IsRunFront}
 use Rattle.slot_traffic.specs.Pieces.{ArrivedValue}

@@ -60,7 +60,7 @@ impl World {
     ) -> Result<Traffic, AllocError>
         requires { (L : Log) × (now : Log) × (steps : Steps) × (d : DisturbanceValue) × MayCarry slot (receiver_numbers to) L now steps self.old d }
         ensures { HasSent B.may slot (receiver_numbers to) result self.old self.new
-            (record { log = B.log bus.old; script = B.script bus.old }) (record { log = B.log bus.new; script = B.script bus.new }) }
+            (B.seen bus.old) (B.seen bus.new) }
     {
         let mut traffic = Traffic::begin(alloc, self.done, slot);
         let sent = send_slot(alloc, &mut traffic, bus, &self.nodes, &self.mission, to);
@@ -82,7 +82,7 @@ impl World {
     ) -> Result<Delivered, Halt>
         requires { (L : Log) × (now : Log) × (steps : Steps) × MayCarry slot (receiver_numbers to) L now steps self.old disturbance.old }
         ensures { PassesPart B.may (MayCarry slot (receiver_numbers to)) (HasArrived slot) result self.old self.new disturbance.old disturbance.new
-            (record { log = B.log bus.old; script = B.script bus.old }) (record { log = B.log bus.new; script = B.script bus.new }) }
+            (B.seen bus.old) (B.seen bus.new) }
     {
         let traffic = match self.send(alloc, bus, slot, to) {
             Ok(traffic) => traffic,

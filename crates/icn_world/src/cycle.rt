@@ -39,8 +39,8 @@ impl World {
         natives: &C,
     ) -> Result<CycleRecord, Halt>
         requires { (L : Log) × MayPass self.old L }
-        ensures { (L : Log) → MayPass self.old L → Passes B.may self.old L (record { log = B.log bus.old; script = B.script bus.old })
-            (with_halt_value result) self.new (record { log = B.log bus.new; script = B.script bus.new }) }
+        ensures { (L : Log) → MayPass self.old L → Passes B.may self.old L (B.seen bus.old)
+            (with_halt_value result) self.new (B.seen bus.new) }
     {
         let mut disturbance = Disturbance::begin(self.active());
         let reconfiguration = self.settle(alloc, bus, &mut disturbance)?;
@@ -72,11 +72,11 @@ impl World {
         gate: &G,
         natives: &C,
     ) -> Result<CycleRecord, Halt>
-        requires { MayCycle self.old (record { log = B.log bus.old; script = B.script bus.old }) }
-        ensures passes { PassesCycle B.may self.old.spent self.old (record { log = B.log bus.old; script = B.script bus.old })
-            (with_halt_value result) self.new (record { log = B.log bus.new; script = B.script bus.new }) }
-        ensures up_to_stop { CarriesUpToStop self.old (record { log = B.log bus.old; script = B.script bus.old })
-            (with_halt_value result) (record { log = B.log bus.new; script = B.script bus.new }) }
+        requires { MayCycle self.old (B.seen bus.old) }
+        ensures passes { PassesCycle B.may self.old.spent self.old (B.seen bus.old)
+            (with_halt_value result) self.new (B.seen bus.new) }
+        ensures up_to_stop { CarriesUpToStop self.old (B.seen bus.old)
+            (with_halt_value result) (B.seen bus.new) }
     {
         if let Some(halt) = self.spent {
             return Err(halt);

@@ -1,5 +1,5 @@
 //! The sweep slot, the final slot and the switch slot: what fills the joining channels and switches off the removed ones.
-ghost use Rattle.std.specs.Prelude.{◌≡◌, ◌<◌, ◌++◌, ℕ, OnOk, IfOk};
+ghost use Rattle.std.specs.Prelude.{◌≡◌, ◌++◌, OnOk, IfOk};
 ghost use Rattle.guards_model.specs.declared.Slot.TheVariants.{Sweep, Final};
 ghost use Rattle.guards_model.specs.Channels.{by_channel};
 ghost use Rattle.guards_model.specs.Network.{Log, switchboard};
@@ -15,7 +15,7 @@ ghost use Rattle.icn_world.specs.Kept.{IsWorldKept};
 use crate::world::{Halt, World};
 use control_state::Closed;
 use fault_script::Disturbance;
-use guards_base::{Chan, ChanSet};
+use guards_base::{Chan, ChanSet, table_by};
 use guards_model::Slot;
 use icn_bus::Bus;
 use icn_frames::Body;
@@ -33,12 +33,11 @@ pub(crate) struct SweepResult {
     pub(crate) sent: [Option<ChanSet>; 7],
 }
 
-// The set that the channel with this number sent to the switchboard.
-fn set_sent<A: Arrived>(arrived: &A, number: u8) -> Option<ChanSet>
-    requires { number < 7 }
-    ensures { result ≡ set_of (A.got arrived.now number switchboard) }
+// The set that a channel sent to the switchboard.
+fn set_sent<A: Arrived>(arrived: &A, from: Chan) -> Option<ChanSet>
+    ensures { result ≡ set_of (A.got arrived.now from switchboard) }
 {
-    match arrived.body(Chan::new(number).unwrap(), 7) {
+    match arrived.body(from, 7) {
         Some(Body::Switch(active)) => Some(*active),
         _ => None,
     }
@@ -49,15 +48,11 @@ fn set_sent<A: Arrived>(arrived: &A, number: u8) -> Option<ChanSet>
 fn sets_sent<A: Arrived>(arrived: &A) -> [Option<ChanSet>; 7]
     ensures { result ≡ by_channel (λ j. set_of (A.got arrived.now j switchboard)) }
 {
-    [
-        set_sent(arrived, 0),
-        set_sent(arrived, 1),
-        set_sent(arrived, 2),
-        set_sent(arrived, 3),
-        set_sent(arrived, 4),
-        set_sent(arrived, 5),
-        set_sent(arrived, 6),
-    ]
+    table_by(
+        |from: Chan| -> Option<ChanSet>
+            ensures { result ≡ set_of (A.got arrived.entry.now from switchboard) }
+        { set_sent(arrived, from) },
+    )
 }
 
 impl World {
@@ -93,7 +88,7 @@ impl World {
     ) -> Result<Closed, Halt>
         requires { (L : Log) × (now : Log) × (steps : Steps) × MayRestore targets L now steps self.old disturbance.old }
         ensures { PassesPart B.may (MayRestore targets) HasClosed result self.old self.new disturbance.old disturbance.new
-            (record { log = B.log bus.old; script = B.script bus.old }) (record { log = B.log bus.new; script = B.script bus.new }) }
+            (B.seen bus.old) (B.seen bus.new) }
     {
         self.enter(Slot::Sweep);
         let to = Receivers::Channels(targets);
@@ -112,7 +107,7 @@ impl World {
     ) -> Result<ChanSet, Halt>
         requires { (L : Log) × (now : Log) × (steps : Steps) × MayTakeContent joined L now steps self.old disturbance.old }
         ensures { PassesPart B.may (MayTakeContent joined) IsTaken result self.old self.new disturbance.old disturbance.new
-            (record { log = B.log bus.old; script = B.script bus.old }) (record { log = B.log bus.new; script = B.script bus.new }) }
+            (B.seen bus.old) (B.seen bus.new) }
     {
         self.enter(Slot::Final);
         let to = Receivers::Channels(joined);
@@ -131,7 +126,7 @@ impl World {
     ) -> Result<[Option<ChanSet>; 7], Halt>
         requires { (L : Log) × (now : Log) × (steps : Steps) × IsWithinCycle Final 8 8 L now steps self.old disturbance.old }
         ensures { PassesPart B.may (IsWithinCycle Final 8 8) IsSwitched result self.old self.new disturbance.old disturbance.new
-            (record { log = B.log bus.old; script = B.script bus.old }) (record { log = B.log bus.new; script = B.script bus.new }) }
+            (B.seen bus.old) (B.seen bus.new) }
     {
         self.enter(Slot::Switch);
         let arrived = self.carry(
@@ -155,7 +150,7 @@ impl World {
     ) -> Result<SweepResult, Halt>
         requires { (L : Log) × (now : Log) × (steps : Steps) × MayRestore targets L now steps self.old disturbance.old }
         ensures { PassesPart B.may (MayRestore targets) IsRestored result self.old self.new disturbance.old disturbance.new
-            (record { log = B.log bus.old; script = B.script bus.old }) (record { log = B.log bus.new; script = B.script bus.new }) }
+            (B.seen bus.old) (B.seen bus.new) }
     {
         let closed = self.pass_sweep(alloc, bus, disturbance, targets)?;
         let joined = closed.joined;

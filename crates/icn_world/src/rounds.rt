@@ -1,6 +1,5 @@
 //! The first part of a cycle: the requests, the rounds of the exchange, and the decision.
 ghost use Rattle.std.specs.Prelude.{◌≡◌, ◌≤◌, ◌++◌, suc, true, nat_le, ◌+◌};
-ghost use Rattle.guards_model.specs.declared.Slot.{Slot as SlotValue};
 ghost use Rattle.guards_model.specs.declared.Slot.TheVariants.{Request, Round3};
 ghost use Rattle.guards_model.specs.Slots.{slot_index, on_bus, round_number};
 ghost use Rattle.guards_model.specs.Channels.{tolerated_faults};
@@ -49,7 +48,7 @@ impl World {
         requires among { IsToActive slot }
         requires stands { (L : Log) × (now : Log) × (steps : Steps) × IsWithinCycle slot (slot_index slot) (slot_index slot) L now steps self.old disturbance.old }
         ensures { PassesPart B.may (IsWithinCycle slot (slot_index slot) (slot_index slot)) (HasArrived slot) result self.old self.new disturbance.old disturbance.new
-            (record { log = B.log bus.old; script = B.script bus.old }) (record { log = B.log bus.new; script = B.script bus.new }) }
+            (B.seen bus.old) (B.seen bus.new) }
     {
         let members = self.switchboard.on();
         self.carry(alloc, bus, slot, Receivers::Channels(members), disturbance)
@@ -67,7 +66,7 @@ impl World {
         requires among { IsToActive slot }
         requires stands { (L : Log) × (now : Log) × (steps : Steps) × MayEnter slot L now steps self.old disturbance.old }
         ensures { PassesPart B.may (MayEnter slot) (HasArrived slot) result self.old self.new disturbance.old disturbance.new
-            (record { log = B.log bus.old; script = B.script bus.old }) (record { log = B.log bus.new; script = B.script bus.new }) }
+            (B.seen bus.old) (B.seen bus.new) }
     {
         self.enter(slot);
         self.carry_to_active(alloc, bus, slot, disturbance)
@@ -82,7 +81,7 @@ impl World {
     ) -> Result<(), Halt>
         requires { (L : Log) × (now : Log) × (steps : Steps) × IsAtStart L now steps self.old disturbance.old }
         ensures { PassesPart B.may IsAtStart (λ _. IsWithinCycle Request 1 1) result self.old self.new disturbance.old disturbance.new
-            (record { log = B.log bus.old; script = B.script bus.old }) (record { log = B.log bus.new; script = B.script bus.new }) }
+            (B.seen bus.old) (B.seen bus.new) }
     {
         self.open(alloc)?;
         let arrived = self.carry_to_active(alloc, bus, Slot::Request, disturbance)?;
@@ -120,7 +119,7 @@ impl World {
         requires high { round_number slot ≤ 2 }
         requires stands { (L : Log) × (now : Log) × (steps : Steps) × MayEnter slot L now steps self.old disturbance.old }
         ensures { PassesPart B.may (MayEnter slot) (λ _. IsWithinCycle slot (suc (slot_index slot)) (suc (slot_index slot))) result self.old self.new disturbance.old disturbance.new
-            (record { log = B.log bus.old; script = B.script bus.old }) (record { log = B.log bus.new; script = B.script bus.new }) }
+            (B.seen bus.old) (B.seen bus.new) }
     {
         let arrived = self.pass_slot(alloc, bus, slot, disturbance)?;
         self.receive(&arrived, slot);
@@ -156,7 +155,7 @@ impl World {
     ) -> Result<Reconfiguration, Halt>
         requires { (L : Log) × (now : Log) × (steps : Steps) × MayEnter Round3 L now steps self.old disturbance.old }
         ensures { PassesPart B.may (MayEnter Round3) IsDecided result self.old self.new disturbance.old disturbance.new
-            (record { log = B.log bus.old; script = B.script bus.old }) (record { log = B.log bus.new; script = B.script bus.new }) }
+            (B.seen bus.old) (B.seen bus.new) }
     {
         let arrived = self.pass_slot(alloc, bus, Slot::Round3, disturbance)?;
         Ok(self.decide(&arrived))
@@ -171,7 +170,7 @@ impl World {
     ) -> Result<Reconfiguration, Halt>
         requires { (L : Log) × (now : Log) × (steps : Steps) × IsAtStart L now steps self.old disturbance.old }
         ensures { PassesPart B.may IsAtStart IsSettled result self.old self.new disturbance.old disturbance.new
-            (record { log = B.log bus.old; script = B.script bus.old }) (record { log = B.log bus.new; script = B.script bus.new }) }
+            (B.seen bus.old) (B.seen bus.new) }
     {
         self.ask(alloc, bus, disturbance)?;
         self.round(alloc, bus, Slot::Round1, disturbance)?;

@@ -24,7 +24,7 @@ impl World {
     ) -> Result<Lines, Halt>
         requires { (L : Log) × (now : Log) × (steps : Steps) × IsWithinCycle Tasks 5 5 L now steps self.old disturbance.old }
         ensures { PassesPart B.may (IsWithinCycle Tasks 5 5) HasVoted result self.old self.new disturbance.old disturbance.new
-            (record { log = B.log bus.old; script = B.script bus.old }) (record { log = B.log bus.new; script = B.script bus.new }) }
+            (B.seen bus.old) (B.seen bus.new) }
     {
         let arrived = self.pass_slot(alloc, bus, Slot::Vote, disturbance)?;
         let lines = self.take_votes(alloc, &arrived)?;

@@ -1,5 +1,5 @@
 //! The work of the tasks slot.
-ghost use Rattle.std.specs.Prelude.{◌≡◌, IfOk};
+ghost use Rattle.std.specs.Prelude.{IfOk};
 ghost use Rattle.guards_model.specs.declared.Slot.TheVariants.{Tasks};
 ghost use Rattle.guards_model.specs.Network.{Log};
 ghost use Rattle.guards_model.specs.Rounds.{Steps};

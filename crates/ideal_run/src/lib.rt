@@ -2,11 +2,9 @@
 #![tactic(auto)]
 
 mod machine;
-mod output;
 mod records;
 mod votes;
 mod writing;
 
 pub use machine::run_cycle;
-pub use output::{WriteStop, put, write_all};
 pub use writing::write_report;

@@ -2,18 +2,17 @@
 ghost use Rattle.std.specs.Prelude.{◌≡◌, ◌+◌};
 ghost use Rattle.guards_runs.specs.IdealMachine.{ideal};
 ghost use Rattle.guards_runs.specs.IdealReport.{head, last, part, parts_below, ideal_report};
-ghost use Rattle.ideal_run.specs.Writes.{Writes, sink_view};
+ghost use Rattle.guards_io.specs.Writes.{Writes};
 
-use crate::output::{WriteStop, put};
 use crate::records::{cycle_text, head, last};
 use context_blocks::Context;
-use guards_io::Sink;
+use guards_io::{Sink, WriteStop, put};
 use mission_type::Mission;
 use native_calls::Calls;
 use std::alloc::Global;
 
 /// Runs a cycle, and writes its part.
-#[tactic(auto, using(crate::proofs::WritesLemmas::nothing_written))]
+#[tactic(auto, using(guards_io::proofs::WritesLemmas::nothing_written, guards_io::proofs::WritesLemmas::puts_writes))]
 fn put_cycle<C: Calls, K: Sink>(
     alloc: Global,
     mission: &Mission,
@@ -24,8 +23,7 @@ fn put_cycle<C: Calls, K: Sink>(
 ) -> Result<(), WriteStop>
     requires { context.old ≡ ideal mission.now cycle }
     ensures context { context.new ≡ ideal mission.now (cycle + 1) }
-    ensures part { Writes (sink_view (K.written out.old) (K.faults out.old))
-        (sink_view (K.written out.new) (K.faults out.new)) (part mission.now cycle) result }
+    ensures part { Writes (K.seen out.old) (K.seen out.new) (part mission.now cycle) result }
 {
     let Ok(text) = cycle_text(alloc, mission, cycle, context, natives) else {
         return Err(WriteStop::Memory);
@@ -42,8 +40,7 @@ fn put_cycles<C: Calls, K: Sink>(
     out: &mut K,
 ) -> Result<(), WriteStop>
     requires { context.old ≡ mission.now.initial }
-    ensures { Writes (sink_view (K.written out.old) (K.faults out.old))
-        (sink_view (K.written out.new) (K.faults out.new)) (parts_below mission.now mission.now.cycles) result }
+    ensures { Writes (K.seen out.old) (K.seen out.new) (parts_below mission.now mission.now.cycles) result }
 {
     let cycles = mission.cycles();
     for cycle in 0..cycles {
@@ -53,10 +50,9 @@ fn put_cycles<C: Calls, K: Sink>(
 }
 
 /// Writes the head line.
-#[tactic(auto, using(crate::proofs::WritesLemmas::nothing_written))]
+#[tactic(auto, using(guards_io::proofs::WritesLemmas::nothing_written, guards_io::proofs::WritesLemmas::puts_writes))]
 fn put_head<K: Sink>(alloc: Global, mission: &Mission, out: &mut K) -> Result<(), WriteStop>
-    ensures { Writes (sink_view (K.written out.old) (K.faults out.old))
-        (sink_view (K.written out.new) (K.faults out.new)) (head mission.now) result }
+    ensures { Writes (K.seen out.old) (K.seen out.new) (head mission.now) result }
 {
     let Ok(text) = head(alloc, mission) else {
         return Err(WriteStop::Memory);
@@ -65,10 +61,9 @@ fn put_head<K: Sink>(alloc: Global, mission: &Mission, out: &mut K) -> Result<()
 }
 
 /// Writes the last line.
-#[tactic(auto, using(crate::proofs::WritesLemmas::nothing_written))]
+#[tactic(auto, using(guards_io::proofs::WritesLemmas::nothing_written, guards_io::proofs::WritesLemmas::puts_writes))]
 fn put_last<K: Sink>(alloc: Global, mission: &Mission, out: &mut K) -> Result<(), WriteStop>
-    ensures { Writes (sink_view (K.written out.old) (K.faults out.old))
-        (sink_view (K.written out.new) (K.faults out.new)) (last mission.now) result }
+    ensures { Writes (K.seen out.old) (K.seen out.new) (last mission.now) result }
 {
     let Ok(text) = last(alloc, mission) else {
         return Err(WriteStop::Memory);
@@ -77,15 +72,14 @@ fn put_last<K: Sink>(alloc: Global, mission: &Mission, out: &mut K) -> Result<()
 }
 
 /// Runs the cycles, and writes their parts.
-#[tactic(auto, using(crate::proofs::WritesLemmas::nothing_written))]
+#[tactic(auto, using(guards_io::proofs::WritesLemmas::nothing_written, guards_io::proofs::WritesLemmas::puts_writes))]
 fn put_run<C: Calls, K: Sink>(
     alloc: Global,
     mission: &Mission,
     natives: &C,
     out: &mut K,
 ) -> Result<(), WriteStop>
-    ensures { Writes (sink_view (K.written out.old) (K.faults out.old))
-        (sink_view (K.written out.new) (K.faults out.new)) (parts_below mission.now mission.now.cycles) result }
+    ensures { Writes (K.seen out.old) (K.seen out.new) (parts_below mission.now mission.now.cycles) result }
 {
     let Ok(mut context) = mission.start(alloc) else {
         return Err(WriteStop::Memory);
@@ -101,8 +95,7 @@ pub fn write_report<C: Calls, K: Sink>(
     natives: &C,
     out: &mut K,
 ) -> Result<(), WriteStop>
-    ensures { Writes (sink_view (K.written out.old) (K.faults out.old))
-        (sink_view (K.written out.new) (K.faults out.new)) (ideal_report mission.now) result }
+    ensures { Writes (K.seen out.old) (K.seen out.new) (ideal_report mission.now) result }
 {
     put_head(alloc, mission, out)?;
     put_run(alloc, mission, natives, out)?;

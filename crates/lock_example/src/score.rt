@@ -6,6 +6,7 @@ ghost use Rattle.ctx_lock.specs.History.{times};
 use ctx_lock::{Actor, Closed, Turned};
 use std::alloc::{AllocError, Global};
 
+/// What the two workers of the example have done.
 #[derive(Drop)]
 pub struct Score {
     task_due: u32,
@@ -26,6 +27,7 @@ pub struct Trail {
 }
 
 impl Trail {
+    /// Lends who took each step, in order.
     pub fn steps(&self) -> &[Actor]
         ensures { result.now ≡ self.now.steps.items }
     {
@@ -91,6 +93,7 @@ impl Score {
         Trail { steps: history }
     }
 
+    /// Lends who took each step, in order.
     pub fn history(&self) -> &[Actor]
         ensures { result.now ≡ self.now.history.items }
     {

@@ -2,13 +2,12 @@
 use Rattle.std.proofs.Common.{◌≡◌, ◌≤◌, ◌<◌, ◌+◌, ◌⊎◌, inl, inr, ℕ, List, length, Some, Ok, Err, refl, sym, ap, ◌∙◌, arith}
 use Rattle.std.specs.Io.KnownBytes.{Consumes}
 use Rattle.guards_io.specs.Causes.{Rose}
-use Rattle.guards_io.specs.Stream.{SourceView}
+use Rattle.guards_io.specs.Views.{SourceView, SinkView}
 use Rattle.guards_model.specs.Missions.{MissionValue}
 use Rattle.document_checks.specs.declared.why.Why.{Why}
 use Rattle.guards_audit.specs.Consistency.{IsConsistent}
 use Rattle.run_audit.specs.Marks.{mission_bytes}
 use Rattle.mission_text.specs.Mission.{mission_of}
-use Rattle.ideal_run.specs.Writes.{SinkView}
 use Rattle.mission_run.specs.declared.limit.TheConstants.{MAX_AUDIT_BYTES, MAX_MISSION_BYTES}
 use Rattle.mission_run.specs.declared.status.Status.{Status}
 use Rattle.mission_run.specs.declared.status.Status.TheVariants.{Done, Usage, BadMission, TooLong, ReadFault, WriteFault, TooManyDisturbed, NoMemory, NotARun}

@@ -5,7 +5,7 @@ use Rattle.std.specs.Prelude.{drop}
 use Rattle.guards_io.specs.Causes.{Rose}
 use Rattle.guards_model.specs.BusRules.{RuleValue}
 use Rattle.guards_model.specs.Missions.{ActuatorValue, MissionValue}
-use Rattle.guards_model.specs.Network.{EntryValue, Log}
+use Rattle.guards_model.specs.Network.{EntryValue, Log, BusValue}
 use Rattle.guards_model.specs.Rounds.{Histories}
 use Rattle.guards_model.specs.Texts.{StopValue}
 use Rattle.guards_runs.specs.Cycles.{cycles_before}
@@ -13,10 +13,9 @@ use Rattle.guards_runs.specs.Disturbed.{stop_of}
 use Rattle.guards_runs.specs.ActedReport.{first_stop, stop_with}
 use Rattle.run_laws.specs.Driving.{RunStopped}
 use Rattle.run_laws.proofs.Ends.{this_stop}
-use Rattle.guards_world.specs.WorldCycle.{BusValue}
 use Rattle.demo_mission.specs.Demo.{demo_mission}
 use Rattle.mission_text.specs.Mission.{mission_of}
-use Rattle.ideal_run.specs.Writes.{SinkView}
+use Rattle.guards_io.specs.Views.{SinkView}
 use Rattle.check_text.specs.Check.{check_of}
 use Rattle.command_line.specs.declared.command.Command.{Command}
 use Rattle.command_line.specs.declared.command.Command.TheVariants as command

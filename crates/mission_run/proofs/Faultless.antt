@@ -9,7 +9,7 @@ use Rattle.guards_model.specs.declared.Slot.TheVariants.{Output, Switch}
 use Rattle.guards_model.specs.Slots.{every_slot, on_bus}
 use Rattle.guards_model.specs.BusRules.{RuleValue}
 use Rattle.guards_model.specs.Missions.{ActuatorValue, MissionValue, IsMission, bus_rules}
-use Rattle.guards_model.specs.Network.{EntryValue, Log, without_outputs}
+use Rattle.guards_model.specs.Network.{EntryValue, Log, without_outputs, BusValue}
 use Rattle.guards_model.specs.Rounds.{Histories}
 use Rattle.guards_model.specs.ScriptedBus.{IsScripted}
 use Rattle.guards_model.specs.Texts.{Part, StopValue, done_line, head_line, text_of_parts}
@@ -21,9 +21,8 @@ use Rattle.guards_laws.proofs.Unsent.{All-filter}
 use Rattle.guards_runs.specs.Faultless.{IsFaultless, HasDue}
 use Rattle.guards_laws.proofs.LogGrows.{length-cycles_before}
 use Rattle.guards_laws.proofs.NoFaults.{faultless_slots}
-use Rattle.guards_world.specs.WorldCycle.{BusValue}
 use Rattle.script_laws.proofs.IdealReports.{report_is}
-use Rattle.ideal_run.specs.Writes.{SinkView}
+use Rattle.guards_io.specs.Views.{SinkView}
 use Rattle.mission_laws.proofs.WholeMission.{read_missions}
 use Rattle.run_laws.specs.Runs.{HasCarried, HasRunCycles}
 use Rattle.run_laws.specs.Acting.{ActedCycles}

@@ -6,7 +6,7 @@ use Rattle.guards_io.specs.Causes.{Rose}
 use Rattle.guards_model.specs.declared.Slot.TheVariants.{Sweep}
 use Rattle.guards_model.specs.BusRules.{RuleValue, lose}
 use Rattle.guards_model.specs.Missions.{ActuatorValue, MissionValue, bus_rules}
-use Rattle.guards_model.specs.Network.{EntryValue, Log, without_outputs}
+use Rattle.guards_model.specs.Network.{EntryValue, Log, without_outputs, BusValue}
 use Rattle.guards_model.specs.Rounds.{Histories}
 use Rattle.guards_model.specs.ScriptedBus.{IsScripted}
 use Rattle.guards_model.specs.Texts.{Part, TextValue, StopValue, stop_line, text_of_parts}
@@ -18,7 +18,6 @@ use Rattle.guards_runs.specs.ActedReport.{stop_with}
 use Rattle.guards_laws.proofs.LogGrows.{length-cycles_before}
 use Rattle.script_laws.specs.Scripts.{ForgesNoSweep, StopsAt, IsScriptedRun}
 use Rattle.script_laws.proofs.Reports.{stops_alike, parts_alike, reports_alike}
-use Rattle.guards_world.specs.WorldCycle.{BusValue}
 use Rattle.run_laws.specs.Runs.{HasCarried, shortened, with_unfinished}
 use Rattle.run_laws.specs.Acting.{ActedToStop}
 use Rattle.run_laws.specs.Driving.{CyclesRan, RunStopped}
@@ -29,7 +28,7 @@ use Rattle.run_laws.proofs.ActedEnds.{reports_alike as acted_reports_alike, run_
 use Rattle.run_laws.specs.Summaries.{summary}
 use Rattle.run_laws.proofs.RunContinues.{due_by, each_due}
 use Rattle.world_run.specs.Running.{stop_value, WritesLine, EndsWith}
-use Rattle.ideal_run.specs.Writes.{SinkView}
+use Rattle.guards_io.specs.Views.{SinkView, SourceView}
 use Rattle.demo_mission.specs.Demo.{demo_mission}
 use Rattle.demo_mission.proofs.IsDemo.{demo_rules_lose}
 use Rattle.command_line.specs.declared.command.Command.{Command}
@@ -37,7 +36,6 @@ use Rattle.command_line.specs.declared.command.Command.TheVariants as command
 use Rattle.mission_run.specs.declared.status.Status.{Status}
 use Rattle.mission_run.specs.declared.status.Status.TheVariants.{Done, Usage, BadMission, TooLong, ReadFault, WriteFault, TooManyDisturbed, NoMemory, NotARun}
 use Rattle.mission_run.specs.Reading.{RefusesBytes}
-use Rattle.guards_io.specs.Stream.{SourceView}
 use Rattle.mission_run.specs.TopCall.{Outside, RunsMission, RunsMissionLast, RunsTold, RunsDemo, Serves, Outcome, DoesScript, status_of_end, text_or_stop, demo_text, told_report, TellsAsAny, RepeatsCommand, Repeats}
 use Rattle.mission_run.proofs.MissionTold.{refused_for_memory, same_mission}
 use Rattle.mission_run.proofs.ByCommand.{by_command}

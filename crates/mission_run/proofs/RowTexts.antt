@@ -6,9 +6,10 @@ use Rattle.guards_model.specs.Tasks.{TaskValue}
 use Rattle.task_table.specs.Tables.{tasks_in_row}
 use Rattle.check_text.specs.Check.{row_text, texts_from}
 use Rattle.check_text.proofs.PlaceTexts.{place_more, place_front}
-use Rattle.ideal_run.specs.declared.output.WriteStop.{WriteStop}
-use Rattle.ideal_run.specs.Writes.{SinkView, Writes}
-use Rattle.ideal_run.proofs.WritesLemmas.{writes_then, writes_stop}
+use Rattle.guards_io.specs.declared.writing.WriteStop.{WriteStop}
+use Rattle.guards_io.specs.Writes.{Writes}
+use Rattle.guards_io.specs.Views.{SinkView}
+use Rattle.guards_io.proofs.WritesLemmas.{writes_then, writes_stop}
 
 -- the lines of the rows before this one
 abbrev pub rows_before : List (List TaskValue) → ℕ → List ℕ

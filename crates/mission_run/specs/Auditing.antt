@@ -2,12 +2,12 @@
 use Rattle.std.specs.Prelude.{◌≡◌, ◌≤◌, ◌<◌, ◌+◌, ◌⊎◌, ℕ, List, length, Some, Ok, Err}
 use Rattle.std.specs.Io.KnownBytes.{Appends, Consumes}
 use Rattle.guards_io.specs.Causes.{Rose}
-use Rattle.guards_io.specs.Stream.{SourceView}
+use Rattle.guards_io.specs.Views.{SourceView, SinkView}
 use Rattle.guards_model.specs.Missions.{MissionValue}
 use Rattle.guards_audit.specs.Consistency.{IsConsistent, IsFirstBad}
 use Rattle.run_audit.specs.Marks.{mission_bytes, trace_bytes}
 use Rattle.mission_text.specs.Mission.{mission_of}
-use Rattle.ideal_run.specs.Writes.{SinkView, AppendsPart, AppendsFront}
+use Rattle.guards_io.specs.Writes.{AppendsPart, AppendsFront}
 use Rattle.world_run.specs.Running.{WritesLine}
 use Rattle.mission_run.specs.declared.limit.TheConstants.{MAX_AUDIT_BYTES, MAX_MISSION_BYTES}
 use Rattle.mission_run.specs.declared.status.Status.{Status}

@@ -1,7 +1,5 @@
 //! Judges the trace of a run by its mission.
-ghost use Rattle.guards_io.specs.Stream.{source_view};
 ghost use Rattle.guards_model.specs.Missions.{MissionValue};
-ghost use Rattle.ideal_run.specs.Writes.{sink_view};
 ghost use Rattle.mission_run.specs.Auditing.{AuditsBytes, CompletesAudit, Judges, JudgesInput};
 ghost use Rattle.run_audit.specs.Answers.{IsVerdict};
 ghost use Rattle.std.specs.Prelude.{List, ℕ};
@@ -10,8 +8,7 @@ use crate::limit::{MAX_AUDIT_BYTES, MAX_MISSION_BYTES};
 use crate::lines::{long_line, no_line, read_line, yes_line};
 use crate::reading::{refuse_mission, told};
 use crate::status::Status;
-use guards_io::{ReadStop, Sink, Source, read_all};
-use ideal_run::put;
+use guards_io::{ReadStop, Sink, Source, put, read_all};
 use mission_text::read;
 use mission_type::Mission;
 use native_calls::Calls;
@@ -22,8 +19,7 @@ use world_run::put_line;
 /// Writes the line of a trace that is not consistent.
 fn say_no<K: Sink>(alloc: Global, line: u32, out: &mut K) -> Status
     ensures { (M : MissionValue) (trace : List ℕ) → IsVerdict M trace (Verdict.No line) →
-        Judges M trace (sink_view (K.written out.old) (K.faults out.old))
-        (sink_view (K.written out.new) (K.faults out.new)) result }
+        Judges M trace (K.seen out.old) (K.seen out.new) result }
 {
     match no_line(alloc, line) {
         Ok(text) => {
@@ -37,8 +33,7 @@ fn say_no<K: Sink>(alloc: Global, line: u32, out: &mut K) -> Status
 /// Writes the line of a verdict.
 fn say<K: Sink>(alloc: Global, verdict: Verdict, out: &mut K) -> Status
     ensures { (M : MissionValue) (trace : List ℕ) → IsVerdict M trace verdict →
-        Judges M trace (sink_view (K.written out.old) (K.faults out.old))
-        (sink_view (K.written out.new) (K.faults out.new)) result }
+        Judges M trace (K.seen out.old) (K.seen out.new) result }
 {
     match verdict {
         Verdict::Yes => told(put(out, yes_line())),
@@ -54,8 +49,7 @@ fn judge<K: Sink, C: Calls>(
     out: &mut K,
     natives: &C,
 ) -> Status
-    ensures { Judges mission trace.now (sink_view (K.written out.old) (K.faults out.old))
-        (sink_view (K.written out.new) (K.faults out.new)) result }
+    ensures { Judges mission trace.now (K.seen out.old) (K.seen out.new) result }
 {
     match audit(alloc, &mission, trace, natives) {
         Ok(verdict) => say(alloc, verdict, out),
@@ -65,8 +59,7 @@ fn judge<K: Sink, C: Calls>(
 
 /// Judges the trace of an input by the mission before it.
 fn judge_input<K: Sink, C: Calls>(alloc: Global, input: &[u8], out: &mut K, natives: &C) -> Status
-    ensures { JudgesInput input.now (sink_view (K.written out.old) (K.faults out.old))
-        (sink_view (K.written out.new) (K.faults out.new)) result }
+    ensures { JudgesInput input.now (K.seen out.old) (K.seen out.new) result }
 {
     let (mission, trace) = split_run(input);
     if mission.len() > MAX_MISSION_BYTES {
@@ -86,10 +79,7 @@ fn audit_read<S: Source, K: Sink, C: Calls>(
     natives: &C,
 ) -> Status
     ensures { AuditsBytes
-        (source_view (S.left src.old) (S.faults src.old))
-        (source_view (S.left src.new) (S.faults src.new))
-        (sink_view (K.written out.old) (K.faults out.old))
-        (sink_view (K.written out.new) (K.faults out.new)) result }
+        (S.seen src.old) (S.seen src.new) (K.seen out.old) (K.seen out.new) result }
 {
     match read_all(alloc, src, MAX_AUDIT_BYTES) {
         Ok(bytes) => judge_input(alloc, bytes.as_slice(), out, natives),
@@ -113,15 +103,9 @@ pub fn audit_run<S: Source, K: Sink, C: Calls>(
     natives: &C,
 ) -> Status
     ensures outcome { AuditsBytes
-        (source_view (S.left src.old) (S.faults src.old))
-        (source_view (S.left src.new) (S.faults src.new))
-        (sink_view (K.written out.old) (K.faults out.old))
-        (sink_view (K.written out.new) (K.faults out.new)) result }
+        (S.seen src.old) (S.seen src.new) (K.seen out.old) (K.seen out.new) result }
     ensures completes { CompletesAudit
-        (source_view (S.left src.old) (S.faults src.old))
-        (source_view (S.left src.new) (S.faults src.new))
-        (sink_view (K.written out.old) (K.faults out.old))
-        (sink_view (K.written out.new) (K.faults out.new)) result }
+        (S.seen src.old) (S.seen src.new) (K.seen out.old) (K.seen out.new) result }
 {
     audit_read(alloc, src, out, natives)
 }

@@ -1,8 +1,7 @@
 //! Reads a mission, and tells what it is.
-ghost use Rattle.check_text.specs.Check.{check_of};
-ghost use Rattle.ideal_run.specs.Writes.{SinkView, Writes, sink_view};
+ghost use Rattle.guards_io.specs.Writes.{Writes};
+ghost use Rattle.guards_io.specs.Views.{SinkView};
 ghost use Rattle.mission_run.specs.Reading.{ReadsMission, RefusesMission, Tells, ChecksBytes, CompletesCheck};
-ghost use Rattle.guards_io.specs.Stream.{source_view};
 ghost use Rattle.std.specs.Prelude.{List, ℕ};
 
 use crate::check::write_check;
@@ -10,8 +9,7 @@ use crate::limit::MAX_MISSION_BYTES;
 use crate::lines::{long_line, mission_line, read_line};
 use crate::status::Status;
 use document_checks::ReadFault;
-use guards_io::{ReadStop, Sink, Source, read_all};
-use ideal_run::WriteStop;
+use guards_io::{ReadStop, Sink, Source, WriteStop, read_all};
 use mission_text::read;
 use mission_type::Mission;
 use std::alloc::Global;
@@ -19,8 +17,7 @@ use world_run::put_line;
 
 /// Writes the line of bytes that are no mission.
 pub(crate) fn refuse_mission<K: Sink>(alloc: Global, out: &mut K, fault: ReadFault) -> Status
-    ensures { RefusesMission fault (sink_view (K.written out.old) (K.faults out.old))
-        (sink_view (K.written out.new) (K.faults out.new)) result }
+    ensures { RefusesMission fault (K.seen out.old) (K.seen out.new) result }
 {
     let ReadFault::Bad(why) = fault else {
         return Status::NoMemory;
@@ -41,10 +38,7 @@ pub fn read_mission<S: Source, K: Sink>(
     out: &mut K,
 ) -> Result<Mission, Status>
     ensures { ReadsMission
-        (source_view (S.left src.old) (S.faults src.old))
-        (source_view (S.left src.new) (S.faults src.new))
-        (sink_view (K.written out.old) (K.faults out.old))
-        (sink_view (K.written out.new) (K.faults out.new)) result }
+        (S.seen src.old) (S.seen src.new) (K.seen out.old) (K.seen out.new) result }
 {
     let bytes = match read_all(alloc, src, MAX_MISSION_BYTES) {
         Ok(bytes) => bytes,
@@ -79,25 +73,16 @@ pub(crate) fn told(written: Result<(), WriteStop>) -> Status
 /// expressions.
 pub fn check_mission<S: Source, K: Sink>(alloc: Global, src: &mut S, out: &mut K) -> Status
     ensures outcome { ChecksBytes
-        (source_view (S.left src.old) (S.faults src.old))
-        (source_view (S.left src.new) (S.faults src.new))
-        (sink_view (K.written out.old) (K.faults out.old))
-        (sink_view (K.written out.new) (K.faults out.new)) result }
+        (S.seen src.old) (S.seen src.new) (K.seen out.old) (K.seen out.new) result }
     ensures completes { CompletesCheck
-        (source_view (S.left src.old) (S.faults src.old))
-        (source_view (S.left src.new) (S.faults src.new))
-        (sink_view (K.written out.old) (K.faults out.old))
-        (sink_view (K.written out.new) (K.faults out.new)) result }
+        (S.seen src.old) (S.seen src.new) (K.seen out.old) (K.seen out.new) result }
 {
     check_read(alloc, src, out)
 }
 
 fn check_read<S: Source, K: Sink>(alloc: Global, src: &mut S, out: &mut K) -> Status
     ensures { ChecksBytes
-        (source_view (S.left src.old) (S.faults src.old))
-        (source_view (S.left src.new) (S.faults src.new))
-        (sink_view (K.written out.old) (K.faults out.old))
-        (sink_view (K.written out.new) (K.faults out.new)) result }
+        (S.seen src.old) (S.seen src.new) (K.seen out.old) (K.seen out.new) result }
 {
     match read_mission(alloc, src, out) {
         Ok(mission) => told(write_check(alloc, &mission, out)),

@@ -91,42 +91,49 @@ impl Mission {
         let _width = self.width;
     }
 
+    /// The rules of diagnosis, removal and transfer.
     pub fn rules(&self) -> &Rules
         ensures { result.now ≡ self.now.rules }
     {
         &self.rules
     }
 
+    /// The number of cycles.
     pub fn cycles(&self) -> u32
         ensures { result ≡ self.now.cycles }
     {
         self.cycles
     }
 
+    /// The number of sensor words of a channel, 1 to 4.
     pub fn width(&self) -> u8
         ensures { result ≡ self.now.width }
     {
         self.width
     }
 
+    /// How many cycles a channel waits that was switched off.
     pub fn return_after(&self) -> u32
         ensures { result ≡ self.now.return_after }
     {
         self.return_after
     }
 
+    /// The context before the first cycle.
     pub fn initial(&self) -> &Context
         ensures { result.now ≡ self.now.initial }
     {
         &self.initial
     }
 
+    /// The block and the word of each output, 1 to 8 of them.
     pub fn outputs(&self) -> &[(u8, u8)]
         ensures { result.now ≡ self.now.outputs }
     {
         self.outputs.as_slice()
     }
 
+    /// The fault script.
     pub fn script(&self) -> &Script
         ensures { result.now ≡ self.now.script }
     {

@@ -52,6 +52,7 @@ impl<F: Operation + Sync> Native<F> {
         Native { code, f }
     }
 
+    /// The code of the call.
     pub fn code(&self) -> Code
         ensures { result ≡ self.now }
     {
@@ -79,6 +80,7 @@ pub struct Natives<X: Operation, Y: Operation, Z: Operation> {
 }
 
 impl<X: Operation + Sync, Y: Operation + Sync, Z: Operation + Sync> Natives<X, Y, Z> {
+    /// The three calls of the task language.
     pub fn new(sat: Native<X>, mid: Native<Y>, ramp: Native<Z>) -> Natives<X, Y, Z>
         requires is_sat { sat ≡ codes.Sat }
         requires is_mid { mid ≡ codes.Mid }

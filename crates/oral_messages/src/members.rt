@@ -54,12 +54,14 @@ impl Members {
         }
     }
 
+    /// The number of members.
     pub fn count(&self) -> u8
         ensures { result ≡ length self.now }
     {
         self.count
     }
 
+    /// Whether a channel is a member.
     pub fn has(&self, label: u8) -> bool
         requires { label < 7 }
         ensures { result ≡ has self.now label }

@@ -13,7 +13,7 @@ use Rattle.guards_model.specs.Texts.{LineValue}
 use Rattle.guards_model.specs.Voting.{Ballots}
 use Rattle.guards_model.proofs.Tables.{has-channels_where}
 use Rattle.guards_runs.specs.Disturbed.{differs_from}
-use Rattle.icn_bus.proofs.Switches.{where_same}
+use Rattle.guards_base.proofs.EachChannel.{sets_alike}
 use Rattle.guards_runs.specs.Outputs.{ballot_taken, ballots_taken, is_output_charge}
 use Rattle.guards_model.specs.Actuators.{ballot_spelled}
 use Rattle.output_gate.specs.Sending.{IsLineDue, AreLinesSent, AreFewSent, TakenValue, taken_of, disturbed_with, HasSentLine, HasTaken}
@@ -114,11 +114,11 @@ module _ (version outputs c : ℕ) (q : Channel) (y : EntryValue) (now : Log) (i
             (if a then channels_where charged_now else union (channels_where charged_now) (q ∷ [])) ≡ channels_where charged_more
         by true true e h = differs (sym h)
         by true false e h =
-            where_same charged_now charged_more
+            sets_alike charged_now charged_more
             (λ p small. none (has disturbed p) (q == p) (list_any (is_output_charge c p) now)
             ∙ ap (λ b. has disturbed p || (b || list_any (is_output_charge c p) now)) (ap (λ b. (q == p) && b) (sym e) ∙ sym (charge_is c q p y is)))
         by false true e h =
-            where_same (λ p. has (channels_where charged_now) p || has (q ∷ []) p) charged_more
+            sets_alike (λ p. has (channels_where charged_now) p || has (q ∷ []) p) charged_more
             (λ p small. ap (λ b. b || ((q == p) || false)) (has-channels_where charged_now p small)
             ∙ some (has disturbed p) (q == p) (list_any (is_output_charge c p) now)
             ∙ ap (λ b. has disturbed p || (b || list_any (is_output_charge c p) now)) (ap (λ b. (q == p) && b) (sym e) ∙ sym (charge_is c q p y is)))
@@ -165,7 +165,7 @@ module _ (may : List RuleValue → EntryValue → Type 0) (script : List RuleVal
       record {
         now = [];
         sent = record { grew = sym (append_nil log); due = tt; spelled = tt; allowed = tt };
-        taken_is = ap T (set ∙ where_same (has disturbed) (λ q. has disturbed q || false) (λ q low. or_false (has disturbed q)));
+        taken_is = ap T (set ∙ sets_alike (has disturbed) (λ q. has disturbed q || false) (λ q low. or_false (has disturbed q)));
       }
     where
       append_nil : (xs : Log) → xs ++ [] ≡ xs

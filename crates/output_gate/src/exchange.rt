@@ -55,9 +55,9 @@ impl OutputGate {
         limit: &Q,
     ) -> Result<(), OutStop>
         requires { MayExchange version (length self.old.words) part.now settled.now }
-        ensures script { B.script bus.new ≡ B.script bus.old }
-        ensures exchanged { Exchanges B.may (B.script bus.old) version part.now settled.now
-            (B.log bus.old) (B.log bus.new) self.old self.new result }
+        ensures script { (B.seen bus.new).script ≡ (B.seen bus.old).script }
+        ensures exchanged { Exchanges B.may (B.seen bus.old).script version part.now settled.now
+            (B.seen bus.old).log (B.seen bus.new).log self.old self.new result }
     {
         let taken = send_lines(
             alloc,

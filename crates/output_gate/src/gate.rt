@@ -7,7 +7,7 @@ ghost use Rattle.guards_model.specs.Actuators.{moved, words_moved, AreForward};
 ghost use Rattle.output_gate.specs.Gates.{moved_towards};
 
 use crate::limiter::Limit;
-use guards_base::{Ballot, ChanSet};
+use guards_base::{Ballot, Chan, ChanSet, set_by};
 use std::marker::Model;
 use voter::vote;
 
@@ -76,11 +76,11 @@ fn moved_words<Q: Limit>(
 fn there(frames: &[Option<Ballot>; 7]) -> ChanSet
     ensures { result ≡ channels_where (λ q. is_some (place_or frames.now q None)) }
 {
-    let mut flags = [false; 7];
-    for j in 0..7usize {
-        flags[j] = frames[j].is_some();
-    }
-    ChanSet::of_flags(&flags)
+    set_by(
+        |c: Chan| -> bool
+            ensures { result ≡ is_some (place_or frames.entry.now c None) }
+        { frames[usize::from(c.index())].is_some() },
+    )
 }
 
 // The number of words of a ballot.

@@ -171,10 +171,10 @@ fn send_line<B: Bus>(
     requires known { IsTrue (between 1 2 version) }
     requires least { 1 ≤ outputs }
     requires most { outputs ≤ 8 }
-    ensures script { B.script bus.new ≡ B.script bus.old }
-    ensures sent { IfOk result (λ sending. HasSentLine B.may (B.script bus.old) (B.log bus.old) (B.log bus.new)
+    ensures script { (B.seen bus.new).script ≡ (B.seen bus.old).script }
+    ensures sent { IfOk result (λ sending. HasSentLine B.may (B.seen bus.old).script (B.seen bus.old).log (B.seen bus.new).log
         version outputs cycle line.now sending.as_sent sending.ballot) }
-    ensures some { OnErr result (AreFewSent B.may (B.script bus.old) (B.log bus.old) (B.log bus.new)
+    ensures some { OnErr result (AreFewSent B.may (B.seen bus.old).script (B.seen bus.old).log (B.seen bus.new).log
         version outputs cycle (line.now ∷ [])) }
 {
     let frame = frame_of(version, line.chan, cycle, words_of(line, outputs));
@@ -244,10 +244,10 @@ pub(crate) fn send_lines<B: Bus>(
     requires known { IsTrue (between 1 2 version) }
     requires least { 1 ≤ outputs }
     requires most { outputs ≤ 8 }
-    ensures script { B.script bus.new ≡ B.script bus.old }
-    ensures sent { IfOk result (HasTaken B.may (B.script bus.old) (B.log bus.old) (B.log bus.new)
+    ensures script { (B.seen bus.new).script ≡ (B.seen bus.old).script }
+    ensures sent { IfOk result (HasTaken B.may (B.seen bus.old).script (B.seen bus.old).log (B.seen bus.new).log
         version outputs cycle disturbed lines.now) }
-    ensures some { OnErr result (AreFewSent B.may (B.script bus.old) (B.log bus.old) (B.log bus.new)
+    ensures some { OnErr result (AreFewSent B.may (B.seen bus.old).script (B.seen bus.old).log (B.seen bus.new).log
         version outputs cycle lines.now) }
 {
     let Some((line, rest)) = lines.split_first() else {

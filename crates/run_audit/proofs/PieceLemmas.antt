@@ -1,6 +1,6 @@
 -- What the pieces of a spelled text are read as.
 use Rattle.std.proofs.Common.{◌≡◌, ℕ, zero, suc, ◌+◌, ◌<◌, ◌≤◌, ◌^◌, ◌==◌, Bool, true, false, not, ℤ, pos, negsuc, List, [], ◌∷◌, ◌++◌, length, get_or, map, take, drop, Option, None, Some, Result, refl, sym, ap, subst, ◌∙◌, arith, append_assoc}
-use Rattle.std.specs.Prelude.{codes, nat_lt, slice_index_or}
+use Rattle.std.specs.Prelude.{codes, nat_lt}
 use Rattle.std.specs.List.{list_all, join_with_byte}
 use Rattle.std.specs.Str.{bytes_eq}
 use Rattle.std.specs.Str.Parse.{ParsesUnsigned, ParsesSigned}
@@ -89,11 +89,6 @@ each_told = refl
 pub set_read : (set : ChannelSet) → is_set set ≡ true → channels_where (has_digit (set_text set)) ≡ set
 unfolding told_again
 set_read set h = (bytes_eq-Decides (channels_where (has_digit (set_text set))) set).0 (every_set told_again each_told set h)
-
-pub flags_told : (text : TextValue) (a b c d e f g : Bool) → a ≡ has_digit text 0 → b ≡ has_digit text 1 → c ≡ has_digit text 2 → d ≡ has_digit text 3 → e ≡ has_digit text 4 →
-    f ≡ has_digit text 5 → g ≡ has_digit text 6 → channels_where (λ q. slice_index_or (a ∷ b ∷ c ∷ d ∷ e ∷ f ∷ g ∷ []) q false) ≡ channels_where (has_digit text)
-unfolding channels_where
-flags_told text a b c d e f g ha hb hc hd he hf hg = λ i. channels_where (λ q. slice_index_or (ha i ∷ hb i ∷ hc i ∷ hd i ∷ he i ∷ hf i ∷ hg i ∷ []) q false)
 
 -- ---- lists at commas
 

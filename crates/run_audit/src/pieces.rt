@@ -3,7 +3,7 @@
 ghost use Rattle.std.specs.Prelude.{◌≡◌, ◌≤◌, ◌<◌, ◌^◌, true, ℕ, ℤ, List, ◌∷◌, length, map, take, nat_lt, Option, Some, All, IfOk, IsUtf8};
 ghost use Rattle.std.specs.List.{join_with_byte, list_all};
 ghost use Rattle.std.specs.Fmt.{decimal, signed_decimal};
-ghost use Rattle.guards_model.specs.Channels.{ChannelSet};
+ghost use Rattle.guards_model.specs.Channels.{ChannelSet, channels_where};
 ghost use Rattle.guards_model.specs.Frames.{is_channel, is_set};
 ghost use Rattle.guards_model.specs.Records.{actor_of_step, transfer_of_pair};
 ghost use Rattle.guards_model.specs.Texts.{TextValue, set_text, words_text, transfer_text, remaining_text, vote_text};
@@ -13,7 +13,7 @@ ghost use Rattle.guards_audit.specs.Lines.{if_there, is_cast, is_small, is_trans
 ghost use Rattle.guards_audit.specs.Reading.{step_of, steps_read};
 ghost use Rattle.run_audit.specs.Pieces.{lacks, has_digit};
 
-use guards_base::{Bytes, Chan, ChanSet};
+use guards_base::{Bytes, Chan, ChanSet, set_by};
 use std::alloc::{AllocError, Global};
 
 /// What stands before the first such letter, and what follows it. A text without the letter is one piece.
@@ -60,6 +60,7 @@ pub fn small_number(text: &str) -> u8
     text.parse::<u8>().unwrap_or(0)
 }
 
+/// A channel, by its number.
 pub fn channel(text: &str) -> Option<Chan>
     ensures { (q : ℕ) → is_channel q ≡ true → text.now ≡ decimal q → result ≡ Some q }
 {
@@ -76,20 +77,23 @@ fn has_digit(text: &str, number: u8) -> bool
         .any(|letter| *letter == b'0' + number)
 }
 
+/// The channels whose digits a text has.
+fn digits(text: &str) -> ChanSet
+    ensures { result ≡ channels_where (has_digit text.now) }
+{
+    set_by(
+        |c: Chan| -> bool
+            ensures { result ≡ has_digit text.entry.now c }
+        { has_digit(text, c.index()) },
+    )
+}
+
 /// A set: the channels whose digits are there.
 pub fn set(text: &str) -> ChanSet
     ensures read { (set : ChannelSet) → is_set set ≡ true → text.now ≡ set_text set → result ≡ set }
     ensures formed { is_set result ≡ true }
 {
-    ChanSet::of_flags(&[
-        has_digit(text, 0),
-        has_digit(text, 1),
-        has_digit(text, 2),
-        has_digit(text, 3),
-        has_digit(text, 4),
-        has_digit(text, 5),
-        has_digit(text, 6),
-    ])
+    digits(text)
 }
 
 /// So many words at commas.

@@ -1,5 +1,5 @@
 -- A cycle of the world, and its exchange with the actuator, go on with a run.
-use Rattle.std.proofs.Common.{◌≡◌, ℕ, zero, suc, ◌+◌, ◌*◌, ◌<◌, ◌≤◌, ◌==◌, Bool, true, false, cond, not, ◌&&◌, ◌||◌, List, [], ◌∷◌, ◌++◌, length, map, take, Option, Some, None, Result, Ok, ℤ, refl, sym, ap, subst, ◌∙◌, arith, append_assoc}
+use Rattle.std.proofs.Common.{◌≡◌, ℕ, zero, suc, ◌+◌, ◌*◌, ◌<◌, ◌≤◌, ◌==◌, Bool, true, false, cond, not, ◌&&◌, ◌||◌, List, [], ◌∷◌, ◌++◌, length, map, take, Option, Some, None, ℤ, refl, sym, ap, subst, ◌∙◌, arith, append_assoc}
 use Rattle.std.specs.Prelude.{filter, find, nat_le, count_by, bytes_eq, option_map, if◌then◌else◌}
 use Rattle.std.proofs.lemmas.Slice.Eq.{bytes_eq-Decides}
 use Rattle.guards_model.proofs.Numbers.{sublists, every_set}
@@ -15,7 +15,7 @@ use Rattle.guards_model.specs.Channels.{Channel, ChannelSet, has, channels_where
 use Rattle.guards_model.specs.Contexts.{context_word, word_of}
 use Rattle.guards_model.specs.Frames.{is_set, spelling}
 use Rattle.guards_model.specs.Missions.{MissionValue, IsMission, output_words, ActuatorValue}
-use Rattle.guards_model.specs.Network.{EntryValue, Log, AreFrom, without_outputs}
+use Rattle.guards_model.specs.Network.{EntryValue, Log, AreFrom, without_outputs, BusValue}
 use Rattle.guards_model.specs.Records.{shown, shown_line}
 use Rattle.guards_model.specs.Rounds.{Steps, Histories, steps_of}
 use Rattle.guards_model.specs.Texts.{LineValue, RecordValue, StopValue}
@@ -32,7 +32,7 @@ use Rattle.guards_laws.proofs.DueEntries.{all_of_cycle}
 use Rattle.guards_laws.proofs.RunIsSound.{main_theorem}
 use Rattle.guards_laws.proofs.LogGrows.{length-cycles_before, cycles_before-append, next_cycle-append}
 use Rattle.guards_world.specs.Worlds.{WorldValue}
-use Rattle.guards_world.specs.WorldCycle.{BusValue, AreFull}
+use Rattle.guards_world.specs.WorldCycle.{AreFull}
 use Rattle.run_laws.specs.Runs.{AreDueBy, HasCarried, HasRunCycles, IsBetween}
 use Rattle.run_laws.proofs.RunPassed.{ran_cycles, outputs_leave, all_on_bus}
 use Rattle.run_laws.proofs.RunContinues.{each_due, due_by}
@@ -46,12 +46,12 @@ use Rattle.guards_runs.specs.Report.{line_of, channels_running_in, cycle_record}
 use Rattle.guards_model.specs.Actuators.{voted_words, output_frame, words_moved, words_towards, moved, wanted_at}
 use Rattle.guards_runs.specs.Outputs.{IsOutputDue, AreOutputsDue, is_output_charge, output_disturbed, output_halts, output_stop, acted_stop, outputs_after, words_after, ballots_taken, ideal_outputs}
 use Rattle.output_gate.specs.Gates.{GateValue}
-use Rattle.output_gate.specs.Sending.{IsLineDue, AreLinesSent, AreFewSent, line_words, disturbed_with}
-use Rattle.output_gate.specs.Exchanging.{VoteFor, Moves, Stays, is_third}
+use Rattle.output_gate.specs.Sending.{IsLineDue, AreLinesSent, line_words, disturbed_with}
+use Rattle.output_gate.specs.Exchanging.{VoteFor, Moves, is_third}
 use Rattle.output_gate.proofs.WordsSettled.{voted_words_are}
 use Rattle.output_gate.proofs.Gathered.{range_length}
 use Rattle.run_laws.proofs.MayExchange.{channels_are, lines_are, filtered, votes_for}
-use Rattle.run_laws.specs.Acting.{AreActedBy, AreOutputsBegun, ActedCycles, ActedToStop, ActedPart, IsActing}
+use Rattle.run_laws.specs.Acting.{AreActedBy, ActedToStop, ActedPart, IsActing}
 use Rattle.run_laws.proofs.Local.{is_apart, words_stay, ballots_between, charged_between, charged_before, later_apart}
 
 -- ---- the entries of the output slot

@@ -1,20 +1,17 @@
 -- The text of a run with an actuator is that of its cycles, and the last line.
-use Rattle.std.proofs.Common.{◌≡◌, ◌<◌, ◌+◌, ◌-◌, ◌≤◌, ℕ, zero, suc, Bool, false, List, [], ◌∷◌, ◌++◌, length, map, Option, Some, None, ℤ, refl, sym, ap, subst, ◌∙◌, arith, length-append}
+use Rattle.std.proofs.Common.{◌≡◌, ◌<◌, ◌+◌, ◌-◌, ℕ, zero, suc, Bool, false, List, [], ◌∷◌, ◌++◌, length, Option, Some, None, ℤ, refl, sym, ap, subst, ◌∙◌, arith, length-append}
 use Rattle.std.specs.Prelude.{is_some, if◌then◌else◌}
-use Rattle.circular_buffer.specs.Buffer.{keep_last}
 use Rattle.guards_model.specs.Missions.{MissionValue, ActuatorValue}
 use Rattle.guards_model.specs.Network.{Log, AreFrom, without_outputs}
 use Rattle.guards_model.specs.Rounds.{Steps, Histories}
-use Rattle.guards_model.specs.Texts.{TextValue, Part, StopValue, text_of_parts, part_text, cycle_part, head_line, last_line, done_line, stop_line, out_line}
+use Rattle.guards_model.specs.Texts.{TextValue, Part, StopValue, cycle_part, head_line, last_line, done_line, stop_line, out_line}
 use Rattle.guards_runs.specs.Cycles.{Past, cycles_before, cycle_at}
 use Rattle.guards_runs.specs.Disturbed.{stop_in, first_of_two}
 use Rattle.guards_runs.specs.Report.{cycle_record, latest_steps, earlier_steps}
 use Rattle.guards_laws.proofs.LogGrows.{length-cycles_before}
-use Rattle.run_laws.specs.Runs.{shortened, with_head, with_unfinished}
-use Rattle.run_laws.proofs.RunTold.{text_and_line, short_of}
+use Rattle.run_laws.specs.Runs.{with_unfinished}
 use Rattle.guards_runs.specs.Outputs.{acted_stop, output_stop, words_after}
 use Rattle.guards_runs.specs.ActedReport.{acted_cycles, acted_run_parts, acted_parts, acted_told, acted_histories}
-use Rattle.run_laws.specs.Acting.{ActedCycles, ActedToStop}
 use Rattle.run_laws.proofs.Local.{words_stay}
 use Rattle.run_laws.proofs.Acting.{at_least}
 

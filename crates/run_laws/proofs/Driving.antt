@@ -10,10 +10,10 @@ use Rattle.guards_model.specs.BusRules.{RuleValue}
 use Rattle.guards_model.specs.Channels.{ChannelSet}
 use Rattle.guards_model.specs.Frames.{is_set}
 use Rattle.guards_model.specs.Missions.{MissionValue, IsMission, is_actuator, bus_rules, ActuatorValue}
-use Rattle.guards_model.specs.Network.{EntryValue, Log, AreFrom, without_outputs}
+use Rattle.guards_model.specs.Network.{EntryValue, Log, AreFrom, without_outputs, BusValue}
 use Rattle.guards_model.specs.Records.{shown}
-use Rattle.guards_model.specs.Rounds.{Steps, Histories}
-use Rattle.guards_model.specs.Texts.{Part, RecordValue, StopValue, cycle_part, out_line}
+use Rattle.guards_model.specs.Rounds.{Histories}
+use Rattle.guards_model.specs.Texts.{Part, RecordValue, cycle_part, out_line}
 use Rattle.guards_laws.proofs.CycleParts.{active-is}
 use Rattle.guards_laws.proofs.LogGrows.{length-cycles_before}
 use Rattle.guards_laws.proofs.WithinChannels.{active_is_set}
@@ -24,9 +24,9 @@ use Rattle.guards_runs.specs.Outputs.{words_after, ideal_outputs}
 use Rattle.guards_runs.specs.ActedReport.{acted_parts}
 use Rattle.guards_model.specs.Settled.{SettledValue}
 use Rattle.guards_world.specs.Worlds.{WorldValue, HaltValue, disturbed, no_memory, first_world, settled_after}
-use Rattle.guards_world.specs.WorldCycle.{BusValue, PassesCycle, MayCycle}
+use Rattle.guards_world.specs.WorldCycle.{PassesCycle, MayCycle}
 use Rattle.world_laws.specs.Fronts.{CarriesUpToStop}
-use Rattle.run_laws.specs.Runs.{HasCarried, HasRunCycles, HasRunToStop, HasRunPart, IsBetween, PassesOn}
+use Rattle.run_laws.specs.Runs.{HasCarried, HasRunCycles, HasRunPart, IsBetween, PassesOn}
 use Rattle.run_laws.proofs.RunPassed.{begins, may_cycle, passes_on, ran_cycles, ran_short}
 use Rattle.run_laws.proofs.RunContinues.{stop_breaks_off}
 use Rattle.run_laws.proofs.RunTold.{parts_more as whole_parts_more}
@@ -35,8 +35,8 @@ use Rattle.output_gate.specs.Exchanging.{Exchanges, MayExchange, Moves, Stays, B
 use Rattle.output_gate.specs.declared.exchange.OutStop.{OutStop}
 use Rattle.output_gate.specs.declared.exchange.OutStop.TheVariants as out
 use Rattle.run_laws.proofs.MayExchange.{may_exchange}
-use Rattle.run_laws.specs.Acting.{ActedCycles, ActedToStop, ActedPart, IsActing}
-use Rattle.run_laws.specs.Driving.{CyclesRan, RunStopped, RunBroken, IsDriven, Drives, Exchanged, exchange_end, first_gate, parts_told, with_part, with_words}
+use Rattle.run_laws.specs.Acting.{ActedToStop, ActedPart, IsActing}
+use Rattle.run_laws.specs.Driving.{CyclesRan, RunBroken, IsDriven, Drives, Exchanged, exchange_end, first_gate, with_part}
 use Rattle.run_laws.proofs.Acting.{take_all, words_count}
 use Rattle.run_laws.proofs.Acting as acting
 use Rattle.run_laws.proofs.NineSlots as nine

@@ -1,23 +1,21 @@
 -- What is told of a run's end, for a mission with an actuator and without one.
-use Rattle.std.proofs.Common.{◌≡◌, ℕ, suc, ◌<◌, ◌≤◌, ◌-◌, ◌+◌, Bool, true, false, List, [], ◌∷◌, ◌++◌, length, map, Option, Some, None, refl, sym, ap, subst, ◌∙◌, arith, length-append}
+use Rattle.std.proofs.Common.{◌≡◌, ℕ, suc, ◌<◌, ◌≤◌, ◌-◌, ◌+◌, Bool, true, false, List, [], ◌∷◌, ◌++◌, length, Option, Some, None, refl, sym, ap, subst, ◌∙◌, arith, length-append}
 use Rattle.std.specs.Prelude.{if◌then◌else◌}
-use Rattle.circular_buffer.specs.Buffer.{keep_last}
 use Rattle.guards_model.specs.declared.Slot.TheVariants.{Output}
 use Rattle.guards_model.specs.Missions.{MissionValue, ActuatorValue}
 use Rattle.guards_model.specs.Network.{Log, without_outputs}
 use Rattle.guards_model.specs.Rounds.{Histories}
-use Rattle.guards_model.specs.Texts.{TextValue, Part, StopValue, text_of_parts, part_text, cycle_part, head_line, done_line, stop_line}
+use Rattle.guards_model.specs.Texts.{Part, StopValue, text_of_parts, cycle_part, done_line, stop_line}
 use Rattle.guards_runs.specs.Cycles.{Cycle, Past, cycles_before, cycle_at}
 use Rattle.guards_runs.specs.Disturbed.{stop_in, first_of_two}
 use Rattle.guards_runs.specs.Report.{cycle_record, cycle_parts, latest_steps, earlier_steps}
 use Rattle.guards_laws.proofs.LogGrows.{length-cycles_before}
 use Rattle.guards_laws.proofs.FirstStop.{stop_stays}
-use Rattle.run_laws.specs.Runs.{HasRunCycles, HasRunToStop, shortened, with_head, with_unfinished}
+use Rattle.run_laws.specs.Runs.{shortened, with_head, with_unfinished}
 use Rattle.run_laws.proofs.RunContinues.{stop_cycle}
 use Rattle.run_laws.proofs.RunTold.{whole_text, stopped_text, short_whole, short_stopped, text_and_line, short_of}
-use Rattle.guards_runs.specs.Outputs.{acted_stop, output_disturbed, output_halts, output_stop}
-use Rattle.guards_runs.specs.ActedReport.{acted_cycles, acted_report, acted_run_parts, acted_parts, stop_with}
-use Rattle.run_laws.specs.Acting.{ActedCycles, ActedToStop}
+use Rattle.guards_runs.specs.Outputs.{output_disturbed, output_halts, output_stop}
+use Rattle.guards_runs.specs.ActedReport.{acted_report, stop_with}
 use Rattle.run_laws.specs.Driving.{CyclesRan, RunStopped, last_told, parts_driven, parts_told, short_told, told_text}
 use Rattle.run_laws.proofs.DrivenTold.{size_of_acted, stays, untraced_parts, whole_parts, stopped_parts}
 

@@ -1,19 +1,16 @@
 -- What the actuator takes in a cycle hangs on the output entries of this cycle alone.
-use Rattle.std.proofs.Common.{◌≡◌, ℕ, zero, suc, ◌+◌, ◌<◌, ◌≤◌, ◌==◌, Bool, true, false, cond, ◌&&◌, ◌||◌, List, [], ◌∷◌, ◌++◌, length, Option, Some, None, ℤ, refl, sym, ap, ◌∙◌, arith}
+use Rattle.std.proofs.Common.{◌≡◌, ℕ, zero, suc, ◌+◌, ◌==◌, Bool, true, false, cond, ◌&&◌, ◌||◌, List, [], ◌∷◌, ◌++◌, length, Option, Some, None, ℤ, refl, ap, ◌∙◌, arith}
 use Rattle.std.specs.Prelude.{find, option_and_then}
 use Rattle.std.specs.List.{AllByRecursion, list_any}
 use Rattle.std.specs.Option.{option_or}
 use Rattle.std.proofs.Math.Path.{fun_ext}
-use Rattle.std.proofs.lemmas.Bool.{eqb-true, ne_eqb}
 use Rattle.std.proofs.lemmas.List.Folds.{find-append, list_any-append}
 use Rattle.guards_model.specs.declared.Slot.TheVariants.{Output}
-use Rattle.guards_model.specs.Slots.{same_slot, on_bus}
+use Rattle.guards_model.specs.Slots.{same_slot}
 use Rattle.guards_model.specs.Channels.{Channel, by_channel}
 use Rattle.guards_model.specs.Network.{EntryValue, Log, AreFrom, is_carry, actuator}
-use Rattle.guards_model.proofs.BoolTests.{both, differ}
-use Rattle.guards_model.proofs.SlotTests.{same_slot-equal}
 use Rattle.guards_runs.specs.Disturbed.{differs_from}
-use Rattle.guards_runs.specs.Outputs.{ballot_taken, ballots_taken, is_output_charge, outputs_after}
+use Rattle.guards_runs.specs.Outputs.{ballots_taken, is_output_charge, outputs_after}
 use Rattle.guards_model.specs.Actuators.{ballot_spelled, words_moved}
 
 -- an entry that is of another cycle or of another slot

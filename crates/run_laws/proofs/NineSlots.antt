@@ -1,7 +1,7 @@
 -- A cycle that ends before its exchange: it stops in one of its nine slots, or memory runs out in it.
-use Rattle.std.proofs.Common.{◌≡◌, ℕ, suc, ◌+◌, ◌<◌, ◌≤◌, Bool, true, false, cond, List, [], ◌∷◌, ◌++◌, length, take, drop, Option, Some, None, refl, sym, ap, subst, ◌∙◌, arith, append_assoc}
+use Rattle.std.proofs.Common.{◌≡◌, ℕ, ◌+◌, ◌<◌, ◌≤◌, Bool, true, false, cond, List, [], ◌∷◌, ◌++◌, length, take, drop, Option, Some, None, refl, sym, ap, subst, ◌∙◌, arith}
 use Rattle.std.specs.Prelude.{filter, find, option_map}
-use Rattle.std.specs.List.{AllZip, AllByRecursion, list_all}
+use Rattle.std.specs.List.{AllZip, list_all}
 use Rattle.std.proofs.Math.Seq.{take-append_seam, drop-append_seam}
 use Rattle.std.proofs.lemmas.List.{append-nil, length-append}
 use Rattle.std.proofs.lemmas.List.Elements.{filter-append}
@@ -10,17 +10,16 @@ use Rattle.guards_model.specs.declared.Slot.TheVariants.{Request, Round1, Round2
 use Rattle.guards_model.specs.Slots.{on_bus, every_slot}
 use Rattle.guards_model.specs.BusRules.{RuleValue}
 use Rattle.guards_model.specs.Missions.{MissionValue, ActuatorValue}
-use Rattle.guards_model.specs.Network.{EntryValue, Log, AreFrom, without_outputs}
+use Rattle.guards_model.specs.Network.{EntryValue, Log, AreFrom, without_outputs, BusValue}
 use Rattle.guards_model.specs.Rounds.{Histories}
 use Rattle.guards_model.specs.Texts.{StopValue}
 use Rattle.guards_model.proofs.BoolTests.{both}
 use Rattle.guards_laws.proofs.LogGrows.{length-cycles_before}
 use Rattle.guards_runs.specs.Cycles.{Cycle, Past, cycles_before, cycle_at}
 use Rattle.guards_runs.specs.Disturbed.{disturbed_channels, halts, stop_in, first_of_two}
-use Rattle.guards_runs.specs.Due.{Carry, IsDue, IsMadeBy, AreMadeBy, cycle_carries}
-use Rattle.guards_runs.specs.Report.{latest_steps, earlier_steps}
+use Rattle.guards_runs.specs.Due.{Carry, IsDue, cycle_carries}
+use Rattle.guards_runs.specs.Report.{earlier_steps}
 use Rattle.guards_world.specs.Worlds.{WorldValue}
-use Rattle.guards_world.specs.WorldCycle.{BusValue}
 use Rattle.world_laws.specs.Fronts.{IsUpToStop}
 use Rattle.run_laws.specs.Runs.{AreDueBy, HasRunToStop, HasRunPart}
 use Rattle.run_laws.proofs.RunPassed.{all_on_bus}

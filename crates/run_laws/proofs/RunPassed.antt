@@ -13,7 +13,7 @@ use Rattle.guards_model.proofs.BoolTests.{both, and_true}
 use Rattle.guards_model.proofs.ListTests.{all-append}
 use Rattle.guards_model.specs.Missions.{MissionValue, IsMission, bus_rules}
 use Rattle.guards_model.specs.BusRules.{RuleValue}
-use Rattle.guards_model.specs.Network.{EntryValue, Log, without_outputs}
+use Rattle.guards_model.specs.Network.{EntryValue, Log, without_outputs, BusValue}
 use Rattle.guards_model.specs.Rounds.{Steps, Histories, steps_of}
 use Rattle.guards_model.specs.Texts.{RecordValue, StopValue}
 use Rattle.guards_runs.specs.Cycles.{Cycle, Past, next_cycle, cycles_before, cycle_at}
@@ -24,7 +24,7 @@ use Rattle.guards_laws.proofs.LogGrows.{cycles_before-append}
 use Rattle.guards_laws.proofs.Agreement.{whole_run}
 use Rattle.guards_laws.proofs.RunIsSound.{main_theorem}
 use Rattle.guards_world.specs.Worlds.{WorldValue, HaltValue, disturbed, no_memory, StandsForWorld, last_entries, first_world}
-use Rattle.guards_world.specs.WorldCycle.{BusValue, Carries, AreFull, PassesCycle, Ends, Finishes, Stops, CycleRunsOutOfMemory, MayCycle}
+use Rattle.guards_world.specs.WorldCycle.{Carries, AreFull, PassesCycle, Ends, Finishes, Stops, CycleRunsOutOfMemory, MayCycle}
 use Rattle.world_laws.proofs.LogStands.{first_stands}
 use Rattle.world_laws.specs.Fronts.{IsUpToStop, CarriesUpToStop}
 use Rattle.run_laws.specs.Runs.{AreDueBy, HasCarried, HasRunCycles, HasRunPart, IsBetween, PassesOn}

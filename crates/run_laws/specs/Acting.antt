@@ -7,7 +7,7 @@ use Rattle.guards_model.specs.Slots.{slot_index}
 use Rattle.guards_model.specs.BusRules.{RuleValue}
 use Rattle.guards_model.specs.Channels.{place_or}
 use Rattle.guards_model.specs.Missions.{MissionValue, ActuatorValue}
-use Rattle.guards_model.specs.Network.{EntryValue, Log, without_outputs}
+use Rattle.guards_model.specs.Network.{EntryValue, Log, without_outputs, BusValue}
 use Rattle.guards_model.specs.Rounds.{Steps, Histories, steps_of}
 use Rattle.guards_model.specs.Texts.{StopValue}
 use Rattle.guards_runs.specs.Cycles.{Cycle, Past, this_cycle, cycles_before, cycle_at}
@@ -16,7 +16,7 @@ use Rattle.guards_runs.specs.Due.{IsDue, IsMadeBy, AreMadeBy, cycle_carries, car
 use Rattle.guards_runs.specs.Report.{latest_steps, earlier_steps, channels_running_in}
 use Rattle.guards_runs.specs.Soundness.{IsSound}
 use Rattle.guards_world.specs.Worlds.{WorldValue}
-use Rattle.guards_world.specs.WorldCycle.{BusValue, AreFull}
+use Rattle.guards_world.specs.WorldCycle.{AreFull}
 use Rattle.world_laws.specs.Fronts.{IsUpToStop}
 use Rattle.run_laws.specs.Runs.{IsBetween}
 use Rattle.guards_model.specs.Actuators.{voted_words}

@@ -5,17 +5,15 @@ use Rattle.circular_buffer.specs.Buffer.{keep_last}
 use Rattle.guards_model.specs.declared.Slot.TheVariants.{Output}
 use Rattle.guards_model.specs.BusRules.{RuleValue}
 use Rattle.guards_model.specs.Missions.{MissionValue, ActuatorValue}
-use Rattle.guards_model.specs.Network.{EntryValue, Log, without_outputs}
+use Rattle.guards_model.specs.Network.{EntryValue, Log, without_outputs, BusValue}
 use Rattle.guards_model.specs.Records.{shown}
 use Rattle.guards_model.specs.Rounds.{Histories}
 use Rattle.guards_model.specs.Texts.{TextValue, Part, RecordValue, StopValue, cycle_part, head_line, last_line, part_text, text_of_parts, out_line}
 use Rattle.guards_runs.specs.Cycles.{Past, cycles_before}
 use Rattle.guards_runs.specs.Report.{cycle_parts}
-use Rattle.guards_runs.specs.Outputs.{words_after}
 use Rattle.guards_runs.specs.ActedReport.{acted_cycles, acted_parts, acted_report, acted_run_parts}
 use Rattle.guards_model.specs.Settled.{SettledValue}
 use Rattle.guards_world.specs.Worlds.{WorldValue, HaltValue, disturbed, no_memory}
-use Rattle.guards_world.specs.WorldCycle.{BusValue}
 use Rattle.run_laws.specs.Runs.{HasCarried, HasRunCycles, HasRunToStop, HasRunPart, IsBetween, run_text, short_text, shortened}
 use Rattle.output_gate.specs.Gates.{GateValue}
 use Rattle.output_gate.specs.Exchanging.{Exchanges}

@@ -6,7 +6,7 @@ use Rattle.guards_model.specs.declared.Slot.TheVariants.{Tasks}
 use Rattle.guards_model.specs.Slots.{slot_index}
 use Rattle.guards_model.specs.Missions.{MissionValue, bus_rules}
 use Rattle.guards_model.specs.BusRules.{RuleValue}
-use Rattle.guards_model.specs.Network.{EntryValue, Log, without_outputs}
+use Rattle.guards_model.specs.Network.{EntryValue, Log, without_outputs, BusValue}
 use Rattle.guards_model.specs.Rounds.{Steps, Histories, steps_of}
 use Rattle.guards_model.specs.Records.{shown}
 use Rattle.guards_model.specs.Texts.{TextValue, Part, RecordValue, StopValue, head_line, part_text, text_of_parts}
@@ -16,7 +16,7 @@ use Rattle.guards_runs.specs.Due.{IsDue, IsMadeBy, AreMadeBy, cycle_carries, car
 use Rattle.guards_runs.specs.Soundness.{IsSound}
 use Rattle.guards_runs.specs.Report.{cycle_record, latest_steps, earlier_steps, cycle_parts, report, report_parts, traced, traced_parts}
 use Rattle.guards_world.specs.Worlds.{WorldValue, HaltValue, disturbed, no_memory, StandsForWorld}
-use Rattle.guards_world.specs.WorldCycle.{BusValue, AreFull}
+use Rattle.guards_world.specs.WorldCycle.{AreFull}
 use Rattle.world_laws.specs.Fronts.{IsUpToStop}
 
 -- ---- on the bus

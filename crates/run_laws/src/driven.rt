@@ -2,11 +2,12 @@
 //! `specs/`: without an actuator each says what is said of a run of nine slots.
 ghost use Rattle.std.specs.Prelude.{◌≡◌, ◌<◌, ◌-◌, ◌++◌, [], ℕ, Bool, Option, Some, Result, Ok, Err, option_map, length};
 ghost use Rattle.guards_model.specs.Missions.{MissionValue, IsMission, bus_rules, ActuatorValue};
-ghost use Rattle.guards_model.specs.Network.{Log};
+ghost use Rattle.guards_model.specs.Network.{Log, BusValue};
 ghost use Rattle.guards_model.specs.Rounds.{Histories};
 ghost use Rattle.guards_model.specs.Texts.{RecordValue, StopValue, done_line, stop_line, text_of_parts};
+ghost use Rattle.guards_runs.specs.ActedReport.{whole_report};
 ghost use Rattle.guards_world.specs.Worlds.{HaltValue, WorldValue, first_world};
-ghost use Rattle.guards_world.specs.WorldCycle.{BusValue, PassesCycle};
+ghost use Rattle.guards_world.specs.WorldCycle.{PassesCycle};
 ghost use Rattle.world_laws.specs.Fronts.{CarriesUpToStop};
 ghost use Rattle.run_laws.specs.Runs.{with_unfinished};
 ghost use Rattle.output_gate.specs.Gates.{GateValue};
@@ -53,4 +54,10 @@ pub fn driven_runs_are_told()
     ensures stopped { (M : MissionValue) (F : Log) (histories : Histories) (trace : Bool) (o : Option ActuatorValue) (n : ℕ) (stop : StopValue) →
         RunStopped o M n stop F histories → told_text o trace M F (with_unfinished (M.cycles - n) histories)
         ≡ text_of_parts (parts_driven o trace M F histories n) ++ stop_line stop }
+{}
+
+/// The text that a run tells is the report of its log, by the mission's actuator.
+pub fn told_texts_are_reports()
+    ensures { (M : MissionValue) (L : Log) (histories : Histories) (trace : Bool) →
+        told_text M.actuator trace M L histories ≡ whole_report trace M L histories }
 {}

@@ -10,18 +10,21 @@ mod scripted;
 
 ghost use Rattle.std.specs.Prelude.{◌≡◌, ◌<◌, ◌-◌, ◌++◌, ◌∷◌, [], ℕ, Bool, None, Some, Result};
 ghost use Rattle.guards_model.specs.Missions.{MissionValue, IsMission, bus_rules};
-ghost use Rattle.guards_model.specs.Network.{Log, without_outputs};
+ghost use Rattle.guards_model.specs.Network.{Log, without_outputs, BusValue};
 ghost use Rattle.guards_model.specs.Rounds.{Histories};
 ghost use Rattle.guards_model.specs.Texts.{RecordValue, StopValue, text_of_parts, done_line, stop_line};
 ghost use Rattle.guards_runs.specs.Cycles.{cycles_before, cycle_at};
 ghost use Rattle.guards_runs.specs.Disturbed.{stop_in, stop_of};
 ghost use Rattle.guards_world.specs.Worlds.{WorldValue, HaltValue, first_world};
-ghost use Rattle.guards_world.specs.WorldCycle.{BusValue, Carries, PassesCycle};
+ghost use Rattle.guards_world.specs.WorldCycle.{Carries, PassesCycle};
 ghost use Rattle.world_laws.specs.Fronts.{CarriesUpToStop};
 ghost use Rattle.run_laws.specs.Runs.{IsBetween, PassesOn, HasRunCycles, HasRunToStop, HasRunPart, last_texts, parts_so_far, run_text, short_text, with_head, with_unfinished};
 
 pub use diagnosed::{cycles_that_ran_are_runs, runs_diagnose_rightly};
-pub use driven::{cycles_drive_on, driven_cycles_ran, driven_runs_are_told, driven_runs_begin};
+pub use driven::{
+    cycles_drive_on, driven_cycles_ran, driven_runs_are_told, driven_runs_begin,
+    told_texts_are_reports,
+};
 pub use exchanges::cycles_may_exchange;
 use icn_bus::Bus;
 pub use scripted::scripted_actings_end_alike;

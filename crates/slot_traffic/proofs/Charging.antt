@@ -11,7 +11,7 @@ use Rattle.guards_model.specs.Frames.{spelling}
 use Rattle.guards_model.proofs.BoolTests.{differ}
 use Rattle.guards_model.proofs.Tables.{has-channels_where}
 use Rattle.guards_runs.specs.Disturbed.{differs_from, is_charge}
-use Rattle.icn_bus.proofs.Switches.{where_same}
+use Rattle.guards_base.proofs.EachChannel.{sets_alike}
 use Rattle.slot_traffic.specs.declared.piece.Piece.{Piece}
 use Rattle.slot_traffic.specs.Pieces.{PieceValue, ParcelValue, entry_by, entries_of_parcel, entries_of_all}
 use Rattle.slot_traffic.specs.Arrivals.{IsMarked, is_changed, piece_value}
@@ -72,7 +72,7 @@ pub none_charged : (c : ℕ) (slot : Slot) (parcel : ParcelValue) (rest : List P
     list_any (λ (p : PieceValue). differs_from (spelling parcel.frame) p.delivered) parcel.pieces ≡ false →
     channels_where (charges c slot rest) ≡ channels_where (charges c slot (parcel ∷ rest))
 none_charged c slot parcel rest same =
-    where_same (charges c slot rest) (charges c slot (parcel ∷ rest))
+    sets_alike (charges c slot rest) (charges c slot (parcel ∷ rest))
     (λ q low. sym (one_more c slot q parcel rest ∙ none_then (parcel.frame.sender == q) _ (charges c slot rest q) same))
 
 -- and another one its sender
@@ -80,7 +80,7 @@ pub one_charged : (c : ℕ) (slot : Slot) (parcel : ParcelValue) (rest : List Pa
     list_any (λ (p : PieceValue). differs_from (spelling parcel.frame) p.delivered) parcel.pieces ≡ true →
     union (channels_where (charges c slot rest)) (parcel.frame.sender ∷ []) ≡ channels_where (charges c slot (parcel ∷ rest))
 one_charged c slot parcel rest differs =
-    where_same (λ q. has (channels_where (charges c slot rest)) q || has (parcel.frame.sender ∷ []) q) (charges c slot (parcel ∷ rest))
+    sets_alike (λ q. has (channels_where (charges c slot rest)) q || has (parcel.frame.sender ∷ []) q) (charges c slot (parcel ∷ rest))
     (λ q low. ap (λ b. b || ((parcel.frame.sender == q) || false)) (has-channels_where (charges c slot rest) q low)
     ∙ some_then (parcel.frame.sender == q) _ (charges c slot rest q) differs ∙ sym (one_more c slot q parcel rest))
 

@@ -1,25 +1,15 @@
 -- The members of a set, by the flags of channels.
-use Rattle.std.proofs.Common.{◌≡◌, ℕ, zero, suc, ◌+◌, ◌<◌, Bool, true, false, cond, List, [], ◌∷◌, ◌++◌, map, get_or, refl, sym, ap, ◌∙◌, arith}
+use Rattle.std.proofs.Common.{◌≡◌, ℕ, ◌+◌, ◌<◌, Bool, true, false, cond, List, [], ◌∷◌, ◌++◌, map, get_or, refl, sym, ap, ◌∙◌, arith}
 use Rattle.std.specs.Prelude.{filter}
 use Rattle.std.specs.List.{range_with_len}
 use Rattle.std.proofs.lemmas.List.{append-nil}
 use Rattle.std.proofs.lemmas.List.FromFn.{filter_of_map_range_with_len_more}
 use Rattle.guards_model.specs.Channels.{ChannelSet, has, channels_where, by_channel}
+use Rattle.guards_base.proofs.EachChannel.{at_place}
 
 pub all_members : (set : ChannelSet) (n : ℕ) → n ≡ 7 → set ≡ channels_where (has set) → filter (has set) (range_with_len 0 n) ≡ set
 unfolding channels_where
 all_members set n is members = rw is (sym members)
-
-flag_of : (f : ℕ → Bool) (q : ℕ) → q < 7 → get_or (by_channel f) q false ≡ f q
-unfolding by_channel
-flag_of f zero h = refl
-flag_of f (suc zero) h = refl
-flag_of f (suc (suc zero)) h = refl
-flag_of f (suc (suc (suc zero))) h = refl
-flag_of f (suc (suc (suc (suc zero)))) h = refl
-flag_of f (suc (suc (suc (suc (suc zero))))) h = refl
-flag_of f (suc (suc (suc (suc (suc (suc zero)))))) h = refl
-flag_of f (suc (suc (suc (suc (suc (suc (suc q))))))) h = absurd (omega arith)
 
 map_same : (xs : List ℕ) → map (λ (x : ℕ). x) xs ≡ xs
 map_same [] = refl
@@ -34,11 +24,11 @@ next_number set q =
 pub one_member : (set : ChannelSet) (flags : List Bool) (q : ℕ) → flags ≡ by_channel (has set) → q < 7 → get_or flags q false ≡ true →
     filter (has set) (range_with_len 0 q) ++ q ∷ [] ≡ filter (has set) (range_with_len 0 (q + 1))
 one_member set flags q are low is =
-    let there : has set q ≡ true = sym (flag_of (has set) q low) ∙ ap (λ l. get_or l q false) (sym are) ∙ is in
+    let there : has set q ≡ true = sym (at_place (has set) q false low) ∙ ap (λ l. get_or l q false) (sym are) ∙ is in
     sym (next_number set q ∙ ap (λ b. filter (has set) (range_with_len 0 q) ++ cond b (q ∷ []) []) there)
 
 pub no_member : (set : ChannelSet) (flags : List Bool) (q : ℕ) → flags ≡ by_channel (has set) → q < 7 → get_or flags q false ≡ false →
     filter (has set) (range_with_len 0 q) ≡ filter (has set) (range_with_len 0 (q + 1))
 no_member set flags q are low is =
-    let none : has set q ≡ false = sym (flag_of (has set) q low) ∙ ap (λ l. get_or l q false) (sym are) ∙ is in
+    let none : has set q ≡ false = sym (at_place (has set) q false low) ∙ ap (λ l. get_or l q false) (sym are) ∙ is in
     sym (next_number set q ∙ ap (λ b. filter (has set) (range_with_len 0 q) ++ cond b (q ∷ []) []) none ∙ append-nil (filter (has set) (range_with_len 0 q)))

@@ -32,6 +32,7 @@ impl Model for Opened {
 }
 
 impl Opened {
+    /// Reads what was delivered of a parcel.
     pub fn of(alloc: Global, parcel: Parcel) -> Result<Opened, AllocError>
         ensures same { IfOk result (λ opened. opened ≡ parcel) }
         ensures spelled { IfOk result SpellInRange }

@@ -131,6 +131,7 @@ fn first_frame<'a>(
 }
 
 impl Parcel {
+    /// A frame with the pieces that carried it.
     pub fn new(frame: Frame, pieces: Sequence<Piece>) -> Parcel
         requires range { IsTrue (in_range frame) }
         requires marked { AllByRecursion (IsMarked (spelling frame)) pieces.items }
@@ -139,6 +140,7 @@ impl Parcel {
         Parcel { frame, pieces }
     }
 
+    /// The sender of the frame.
     pub fn sender(&self) -> Chan
         ensures { result ≡ self.now.frame.sender }
     {

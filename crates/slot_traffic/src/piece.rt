@@ -1,7 +1,6 @@
 //! The pieces of one frame: what was delivered to each receiver.
 ghost use Rattle.std.specs.Prelude.{◌≡◌, ◌≤◌, [], bytes_eq, length, map, OnOk, OnErr};
 ghost use Rattle.std.specs.List.{AllByRecursion};
-ghost use Rattle.guards_model.specs.Frames.{FrameValue};
 ghost use Rattle.guards_runs.specs.Disturbed.{differs_from};
 ghost use Rattle.icn_bus.specs.Deliveries.{delivery_value};
 ghost use Rattle.slot_traffic.specs.Arrivals.{IsMarked, delivered_of, is_changed, piece_value};
@@ -83,10 +82,10 @@ pub fn carry_to_each<B: Bus>(
 ) -> Result<(), AllocError>
     requires empty { pieces.old.items ≡ [] }
     requires room { length receivers.now ≤ pieces.old.spare }
-    ensures script { B.script bus.new ≡ B.script bus.old }
-    ensures carried { OnOk result (AreDelivered B.may (B.script bus.old) (B.log bus.old) (B.log bus.new)
+    ensures script { (B.seen bus.new).script ≡ (B.seen bus.old).script }
+    ensures carried { OnOk result (AreDelivered B.may (B.seen bus.old).script (B.seen bus.old).log (B.seen bus.new).log
         cycle slot from receivers.now sent.now (map (piece_value sent.now) pieces.new.items)) }
-    ensures some { OnErr result (AreSomeDelivered B.may (B.script bus.old) (B.log bus.old) (B.log bus.new)
+    ensures some { OnErr result (AreSomeDelivered B.may (B.seen bus.old).script (B.seen bus.old).log (B.seen bus.new).log
         cycle slot from receivers.now sent.now (map (piece_value sent.now) pieces.new.items)) }
     ensures marked { AllByRecursion (IsMarked sent.now) pieces.new.items }
 {

@@ -1,5 +1,5 @@
 //! The traffic of a slot, and what arrived of it.
-ghost use Rattle.std.specs.Prelude.{◌≡◌, ◌≤◌, ℕ, true, IsTrue, List, [], length, map, take, sum_by, Some, find, option_and_then, option_map, IfOk, IfSome, OnOk, OnErr};
+ghost use Rattle.std.specs.Prelude.{◌≡◌, ◌≤◌, ℕ, true, IsTrue, [], length, map, take, sum_by, Some, find, option_and_then, option_map, IfOk, IfSome, OnOk, OnErr};
 ghost use Rattle.std.specs.List.{AllByRecursion, list_any};
 ghost use Rattle.std.specs.Option.{option_copied};
 ghost use Rattle.guards_model.specs.declared.Slot.{Slot};
@@ -78,12 +78,12 @@ fn carried<B: Bus>(
 ) -> Result<(), AllocError>
     requires range { IsTrue (in_range frame.now) }
     requires empty { pieces.old.items ≡ [] }
-    ensures script { B.script bus.new ≡ B.script bus.old }
+    ensures script { (B.seen bus.new).script ≡ (B.seen bus.old).script }
     ensures sent { OnOk result (let entries = map (entry_by cycle slot frame.now.sender (spelling frame.now)) (map (piece_value (spelling frame.now)) pieces.new.items) in
-        AreCarried B.may (B.script bus.old) (B.log bus.old) (B.log bus.new) (spelling frame.now)
+        AreCarried B.may (B.seen bus.old).script (B.seen bus.old).log (B.seen bus.new).log (spelling frame.now)
         (carries_from cycle slot frame.now.sender (receiver_numbers receivers)) entries) }
     ensures some { OnErr result (let entries = map (entry_by cycle slot frame.now.sender (spelling frame.now)) (map (piece_value (spelling frame.now)) pieces.new.items) in
-        AreCarried B.may (B.script bus.old) (B.log bus.old) (B.log bus.new) (spelling frame.now)
+        AreCarried B.may (B.seen bus.old).script (B.seen bus.old).log (B.seen bus.new).log (spelling frame.now)
         (take (length entries) (carries_from cycle slot frame.now.sender (receiver_numbers receivers))) entries) }
     ensures marked { AllByRecursion (IsMarked (spelling frame.now)) pieces.new.items }
 {
@@ -181,10 +181,10 @@ impl Traffic {
         receivers: Receivers,
     ) -> Result<(), AllocError>
         requires { IsTrue (in_range frame) }
-        ensures script { B.script bus.new ≡ B.script bus.old }
-        ensures sent { OnOk result (SendsFrame B.may (B.script bus.old) (B.log bus.old) (B.log bus.new) (spelling frame)
+        ensures script { (B.seen bus.new).script ≡ (B.seen bus.old).script }
+        ensures sent { OnOk result (SendsFrame B.may (B.seen bus.old).script (B.seen bus.old).log (B.seen bus.new).log (spelling frame)
             (carries_from self.old.cycle self.old.slot frame.sender (receiver_numbers receivers)) self.old self.new) }
-        ensures some { OnErr result (SendsFirstOfFrame B.may (B.script bus.old) (B.log bus.old) (B.log bus.new) (spelling frame)
+        ensures some { OnErr result (SendsFirstOfFrame B.may (B.seen bus.old).script (B.seen bus.old).log (B.seen bus.new).log (spelling frame)
             (carries_from self.old.cycle self.old.slot frame.sender (receiver_numbers receivers)) self.old self.new) }
     {
         self.parcels.reserve(1)?;
@@ -209,6 +209,7 @@ impl Traffic {
         self.cycle
     }
 
+    /// The slot.
     pub fn slot(&self) -> Slot
         ensures { result ≡ self.now.slot }
     {

@@ -41,6 +41,7 @@ impl Model for Crew {
 impl Crew {
     ghost use Rattle.frame_pipe.specs.Pipes.{feed_name, framer_name, sent};
 
+    /// The two workers of a channel, before their first round.
     pub fn new(alloc: Global, chan: u8, framer: Framer, tries: usize) -> Crew
         ensures { result ≡ framer_name framer }
     {

@@ -2,6 +2,7 @@
 
 use thiserror::Error;
 
+/// Why tasks and rows are no table.
 #[derive(Clone, Copy, Debug, PartialEq, Eq, Error)]
 pub enum TableFault {
     /// There are not 1 to 64 tasks.

@@ -1,50 +1,17 @@
 -- Sets of channels as lists, masks and flags.
-use Rattle.std.proofs.Common.{◌≡◌, ℕ, ◌<◌, ◌^◌, eq-eqb, ◌==◌, Bool, true, false, cond, not, ◌&&◌, ◌||◌, List, [], ◌∷◌, length, get_or, refl, sym, ap, ◌∙◌}
-use Rattle.std.specs.Prelude.{filter, nat_lt, slice_index_or, bytes_eq}
+use Rattle.std.proofs.Common.{◌≡◌, ℕ, ◌<◌, ◌^◌, eq-eqb, ◌==◌, Bool, true, false, cond, not, ◌&&◌, ◌||◌, List, [], ◌∷◌, length, refl, sym, ap, ◌∙◌}
+use Rattle.std.specs.Prelude.{nat_lt, bytes_eq}
 use Rattle.std.proofs.Math.Dec.{eqb-suc-zero}
 use Rattle.std.proofs.lemmas.Bool.{eqb-true}
-use Rattle.std.proofs.lemmas.Option.{unwrap_or-slice_get}
 use Rattle.std.proofs.lemmas.Slice.Eq.{bytes_eq-Decides}
 use Rattle.std.specs.List.{list_all}
-use Rattle.guards_model.specs.Channels.{ChannelSet, has, without, channels_where, by_channel, every_channel, mask, set_of_mask}
+use Rattle.guards_model.specs.Channels.{ChannelSet, has, without, every_channel, mask, set_of_mask}
 use Rattle.guards_model.specs.Frames.{is_set}
 use Rattle.guards_model.proofs.AscendingLists.{member-channel, member_passes}
 use Rattle.guards_model.proofs.BoolTests.{and_true, or_true}
 use Rattle.guards_model.proofs.Counting.{has-head}
-use Rattle.guards_model.proofs.Tables.{at-by_channel, every_has}
+use Rattle.guards_model.proofs.Tables.{every_has}
 use Rattle.guards_model.proofs.Numbers.{every_set, is_set_of_mask, sublists}
-
--- ---- two sets by their flags
-
-module _ (op : Bool → Bool → Bool) (a b : ChannelSet) (fs gs : List Bool) (x0 x1 x2 x3 x4 x5 x6 : Bool) where
-  pub picked : fs ≡ by_channel (has a) → gs ≡ by_channel (has b) →
-      x0 ≡ op (get_or fs 0 false) (get_or gs 0 false) → x1 ≡ op (get_or fs 1 false) (get_or gs 1 false) → x2 ≡ op (get_or fs 2 false) (get_or gs 2 false) →
-      x3 ≡ op (get_or fs 3 false) (get_or gs 3 false) → x4 ≡ op (get_or fs 4 false) (get_or gs 4 false) → x5 ≡ op (get_or fs 5 false) (get_or gs 5 false) →
-      x6 ≡ op (get_or fs 6 false) (get_or gs 6 false) →
-      channels_where (λ q. slice_index_or (x0 ∷ x1 ∷ x2 ∷ x3 ∷ x4 ∷ x5 ∷ x6 ∷ []) q false) ≡ channels_where (λ q. op (has a q) (has b q))
-  unfolding channels_where by_channel
-  picked f g h0 h1 h2 h3 h4 h5 h6 =
-      (λ i. channels_where (λ q. slice_index_or (h0 i ∷ h1 i ∷ h2 i ∷ h3 i ∷ h4 i ∷ h5 i ∷ h6 i ∷ []) q false))
-      ∙ (λ i. channels_where (λ q. slice_index_or
-      (op (get_or (f i) 0 false) (get_or (g i) 0 false) ∷ op (get_or (f i) 1 false) (get_or (g i) 1 false) ∷ op (get_or (f i) 2 false) (get_or (g i) 2 false)
-      ∷ op (get_or (f i) 3 false) (get_or (g i) 3 false) ∷ op (get_or (f i) 4 false) (get_or (g i) 4 false) ∷ op (get_or (f i) 5 false) (get_or (g i) 5 false)
-      ∷ op (get_or (f i) 6 false) (get_or (g i) 6 false) ∷ []) q false))
-
-abbrev pub except : Bool → Bool → Bool
-except x y = x && not y
-
-twice_by : (p q : ℕ → Bool) (x : ℕ) (xs : List ℕ) (s : Bool) → p x ≡ s → filter (λ y. p y && q y) xs ≡ filter q (filter p xs) →
-    cond (s && q x) (x ∷ filter (λ y. p y && q y) xs) (filter (λ y. p y && q y) xs) ≡ filter q (cond s (x ∷ filter p xs) (filter p xs))
-twice_by p q x xs true e h = ap (λ ys. cond (q x) (x ∷ ys) ys) h
-twice_by p q x xs false e h = h
-
-filter_twice : (p q : ℕ → Bool) (xs : List ℕ) → filter (λ x. p x && q x) xs ≡ filter q (filter p xs)
-filter_twice p q [] = refl
-filter_twice p q (x ∷ xs) = twice_by p q x xs (p x) refl (filter_twice p q xs)
-
-pub without_is : (a b : ChannelSet) → a ≡ channels_where (has a) → channels_where (λ q. has a q && not (has b q)) ≡ without a b
-unfolding channels_where
-without_is a b h = filter_twice (has a) (λ q. not (has b q)) every_channel ∙ ap (λ s. without s b) (sym h)
 
 -- ---- tests of all members
 
@@ -107,9 +74,6 @@ pub masks_tell : (a b : ChannelSet) (m n : ℕ) → m ≡ mask a → n ≡ mask 
 masks_tell a b m n e f g h =
     same_bool (m == n) (bytes_eq a b) (λ k. (bytes_eq-Decides a b).1 (g ∙ ap set_of_mask (eqb-true m n k) ∙ sym h))
     (λ k. eq-eqb m n (e ∙ ap mask ((bytes_eq-Decides a b).0 k) ∙ sym f))
-
-pub flag_is : (f : ℕ → Bool) (q : ℕ) → q < 7 → get_or (by_channel f) q false ≡ f q
-flag_is f q low = sym (unwrap_or-slice_get (by_channel f) q false) ∙ at-by_channel f q false low
 
 -- what each channel passes that is in a set
 pub all_members : (P : ℕ → Bool) (set : ChannelSet) (m : ℕ) → set ≡ set_of_mask m → m < 128 → ((q : ℕ) → q < 7 → (not (has set q) || P q) ≡ true) → list_all P set ≡ true

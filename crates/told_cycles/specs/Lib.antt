@@ -1,3 +1,4 @@
 pub mod Rules
 pub mod Standing
+pub mod Counts
 pub mod Sweeping

@@ -1,5 +1,5 @@
 //! The auditor, between two lines.
-ghost use Rattle.std.specs.Prelude.{◌≡◌, ◌≤◌, ◌<◌, ◌&&◌, not, false, true, ℕ, List, [], ◌∷◌, length, map, take, Option, None, Some, unwrap_or, IfOk, IsTrue, bytes_eq};
+ghost use Rattle.std.specs.Prelude.{◌≡◌, ◌≤◌, ◌<◌, ◌&&◌, not, false, true, ℕ, [], ◌∷◌, length, map, take, Option, None, Some, unwrap_or, IfOk, bytes_eq};
 ghost use Rattle.guards_model.specs.Channels.{ChannelSet, union};
 ghost use Rattle.guards_model.specs.Decisions.{joined_of};
 ghost use Rattle.guards_model.specs.Missions.{ActuatorValue, MissionValue};
@@ -20,7 +20,7 @@ use crate::rules::{
     all_stay_rightly, are_all_done, block_count, channel_count, comes_next, everyone, is_head_of,
     is_same_number, joins, remaining_of, returning_of, starts_in, sweep_of,
 };
-use crate::sets::{are_same, both, either, minus, plus, within};
+use crate::sets::{are_same, both, either, within};
 use crate::sweeps::{Plan, Sweeps};
 use crate::work::{
     copies_told, first_words, has_width, run_line, teller_of, votes_fit, words_after, worker_of,
@@ -199,7 +199,7 @@ impl Auditor {
         let Some((targets, start)) = *transfer else {
             return true;
         };
-        let passive = minus(everyone(mission), self.active);
+        let passive = everyone(mission).difference(self.active);
         let count = targets.count();
         let some = both(1 <= count, count <= returning_of(mission));
         let running = either(start == self.done, self.goes_on(targets, start));
@@ -400,7 +400,7 @@ impl Auditor {
         };
         mission.prove_sizes();
         let counts = counts_told(first, channel_count(mission));
-        let left = minus(self.active, removed).count();
+        let left = self.active.difference(removed).count();
         let stay = both(
             3 <= left,
             all_stay_rightly(mission, self.active, removed, &counts),
@@ -452,7 +452,7 @@ impl Auditor {
         self.counts = counts_of_line(&self.part.first, channel_count(mission));
         self.joined = joined;
         self.transfer = self.part.transfer;
-        self.active = plus(minus(self.active, removed), joined);
+        self.active = self.active.difference(removed).union(joined);
         self.done += 1;
         self.place = next_place(mission);
     }

@@ -1,12 +1,13 @@
 //! The counts of a cycle.
 ghost use Rattle.std.specs.Prelude.{◌≡◌, ◌≤◌, ◌<◌, ◌+◌, min, true, ℕ, List, slice_index, take, Some, bytes_eq, if◌then◌else◌};
-ghost use Rattle.guards_model.specs.Channels.{has, place_or};
+ghost use Rattle.guards_model.specs.Channels.{by_channel, has, place_or};
 ghost use Rattle.guards_model.specs.Frames.{count_cap};
 ghost use Rattle.guards_model.specs.Texts.{LineValue};
 ghost use Rattle.guards_model.specs.Diagnosis.{count_step, counts_of};
+ghost use Rattle.told_cycles.specs.Counts.{after};
 
 use crate::lines::are_same_counts;
-use guards_base::{ChanSet, ChannelLine, Rules};
+use guards_base::{Chan, ChanSet, ChannelLine, Rules, table_by};
 use guards_model::Law;
 use mission_type::Mission;
 
@@ -38,8 +39,7 @@ fn stepped(rules: &Rules, errant: bool, base: u32) -> u32
 /// The count of a channel: 0 where it is passive, and a step from 0 where it is fresh.
 fn count_after(rules: &Rules, active: bool, fresh: bool, errant: bool, before: u32) -> u32
     requires { rules.now.keep ≤ 65536 }
-    ensures { result
-        ≡ (if active then count_step rules.now.law rules.now.keep rules.now.decrement errant (if fresh then 0 else before) else 0) }
+    ensures { result ≡ after rules.now.law rules.now.keep rules.now.decrement active fresh errant before }
 {
     if !active {
         return 0;
@@ -48,6 +48,36 @@ fn count_after(rules: &Rules, active: bool, fresh: bool, errant: bool, before: u
         return stepped(rules, errant, 0);
     }
     stepped(rules, errant, before)
+}
+
+/// The count of each channel.
+fn each_count(
+    rules: &Rules,
+    active: ChanSet,
+    fresh: ChanSet,
+    judged: ChanSet,
+    before: &[u32; 7],
+) -> [u32; 7]
+    requires { rules.now.keep ≤ 65536 }
+    ensures { result ≡ by_channel (λ q.
+        after rules.now.law rules.now.keep rules.now.decrement (has active q) (has fresh q) (has judged q)
+        (slice_index before.now q)) }
+{
+    table_by(
+        |c: Chan| -> u32
+            requires { rules.now.keep ≤ 65536 }
+            ensures { result ≡ after rules.entry.now.law rules.entry.now.keep rules.entry.now.decrement
+                (has active c) (has fresh c) (has judged c) (slice_index before.entry.now c) }
+        {
+            count_after(
+                rules,
+                active.has(c),
+                fresh.has(c),
+                judged.has(c),
+                before[usize::from(c.index())],
+            )
+        },
+    )
 }
 
 /// The counts that a judgement gives.
@@ -63,18 +93,7 @@ fn counts_after(
         (if has fresh q then 0 else slice_index before.now q) ≡ place_or base q 0) →
         result ≡ counts_of rules.now.law rules.now.keep rules.now.decrement active judged base }
 {
-    let there = active.flags();
-    let fresh = fresh.flags();
-    let errant = judged.flags();
-    [
-        count_after(rules, there[0], fresh[0], errant[0], before[0]),
-        count_after(rules, there[1], fresh[1], errant[1], before[1]),
-        count_after(rules, there[2], fresh[2], errant[2], before[2]),
-        count_after(rules, there[3], fresh[3], errant[3], before[3]),
-        count_after(rules, there[4], fresh[4], errant[4], before[4]),
-        count_after(rules, there[5], fresh[5], errant[5], before[5]),
-        count_after(rules, there[6], fresh[6], errant[6], before[6]),
-    ]
+    each_count(rules, active, fresh, judged, before)
 }
 
 /// The counts that a judgement gives by a mission's law.

@@ -10,7 +10,7 @@ ghost use Rattle.guards_audit.specs.Tests.{comes_next, same_number, stays_rightl
 ghost use Rattle.guards_audit.specs.Told.{first_line};
 ghost use Rattle.told_cycles.specs.Rules.{most_planned};
 
-use crate::sets::{all_below, both, either, is_in, minus};
+use crate::sets::{all_below, both, either, is_in};
 use guards_base::{Chan, ChanSet};
 use mission_type::Mission;
 
@@ -161,7 +161,7 @@ fn stays_rightly(
 {
     let is_passive = !is_in(active, chan);
     let reached = threshold <= counts[usize::from(chan)];
-    let left = minus(active, removed).count();
+    let left = active.difference(removed).count();
     let last_three = both(left == 3, all_below(removed, chan));
     either(
         is_passive,

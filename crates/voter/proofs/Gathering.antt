@@ -1,10 +1,10 @@
 -- The loops over channels and places.
-use Rattle.std.proofs.Common.{◌≡◌, ℕ, zero, suc, ◌+◌, ◌-◌, ◌<◌, Bool, true, false, cond, ◌&&◌, List, [], ◌∷◌, ◌++◌, length, get_or, set, replicate, Option, None, Some, refl, sym, ap, ◌∙◌, arith}
+use Rattle.std.proofs.Common.{◌≡◌, ℕ, zero, suc, ◌+◌, ◌-◌, ◌<◌, Bool, true, false, cond, List, [], ◌∷◌, ◌++◌, length, get_or, set, replicate, Option, None, Some, refl, sym, ap, ◌∙◌, arith}
 use Rattle.std.specs.Prelude.{map, filter}
 use Rattle.std.specs.List.{range_with_len}
 use Rattle.std.proofs.lemmas.List.{map-append}
 use Rattle.std.proofs.lemmas.List.Elements.{filter_map-append}
-use Rattle.guards_model.specs.Channels.{Channel, ChannelSet, has, place_or, by_channel, channels_where, every_channel}
+use Rattle.guards_model.specs.Channels.{ChannelSet, has, place_or, by_channel, channels_where}
 use Rattle.guards_model.specs.Voting.{present}
 
 append-nil : {A : Type 0} (xs : List A) → xs ++ [] ≡ xs
@@ -110,58 +110,3 @@ filled_more f d places n x h e =
 pub filled_none : {B : Type 0} (f : ℕ → B) (d : B) (places : ℕ) → replicate places d ≡ filled_to f d places 0
 unfolding filled_to
 filled_none f d places = let same : places ≡ places - 0 = omega arith in ap (λ m. replicate m d) same
-
--- ---- a set made by a test of each channel
-
-filter_both : (r p : ℕ → Bool) (xs : List ℕ) → filter (λ q. r q && p q) xs ≡ filter p (filter r xs)
-filter_both r p [] = refl
-filter_both r p (x ∷ xs) = by_first (r x) (filter_both r p xs)
-  where
-    by_first : (b : Bool) → filter (λ q. r q && p q) xs ≡ filter p (filter r xs) →
-        cond (b && p x) (x ∷ filter (λ q. r q && p q) xs) (filter (λ q. r q && p q) xs) ≡ filter p (cond b (x ∷ filter r xs) (filter r xs))
-    by_first true h = ap (λ ys. cond (p x) (x ∷ ys) ys) h
-    by_first false h = h
-
-alike : (f g : ℕ → Bool) → ((q : ℕ) → q < 7 → f q ≡ g q) → channels_where f ≡ channels_where g
-unfolding channels_where
-alike f g h =
-    let a = h 0 (omega arith) in
-    let b = h 1 (omega arith) in
-    let c = h 2 (omega arith) in
-    let d = h 3 (omega arith) in
-    let e = h 4 (omega arith) in
-    let i = h 5 (omega arith) in
-    let j = h 6 (omega arith) in
-    rw (a, b, c, d, e, i, j) refl
-
--- flags of those members that pass a test make the set of these
-pub set_by_flags : (s : ChannelSet) (test : Channel → Bool) (flags : List Bool) → s ≡ channels_where (has s) →
-    ((q : ℕ) → q < 7 → get_or flags q false ≡ (has s q && test q)) → channels_where (λ q. get_or flags q false) ≡ filter test s
-unfolding channels_where
-set_by_flags s test flags whole h =
-    alike (λ q. get_or flags q false) (λ q. has s q && test q) h ∙ filter_both (has s) test every_channel ∙ ap (filter test) (sym whole)
-
-pub filled_at : (f : ℕ → Bool) (q : ℕ) → q < 7 → get_or (filled_to f false 7 7) q false ≡ f q
-unfolding filled_to
-filled_at f zero h = refl
-filled_at f (suc zero) h = refl
-filled_at f (suc (suc zero)) h = refl
-filled_at f (suc (suc (suc zero))) h = refl
-filled_at f (suc (suc (suc (suc zero)))) h = refl
-filled_at f (suc (suc (suc (suc (suc zero))))) h = refl
-filled_at f (suc (suc (suc (suc (suc (suc zero)))))) h = refl
-filled_at f (suc (suc (suc (suc (suc (suc (suc q))))))) h = absurd (omega arith)
-
-table_at : (f : ℕ → Bool) (q : ℕ) → q < 7 → get_or (by_channel f) q false ≡ f q
-unfolding by_channel
-table_at f zero h = refl
-table_at f (suc zero) h = refl
-table_at f (suc (suc zero)) h = refl
-table_at f (suc (suc (suc zero))) h = refl
-table_at f (suc (suc (suc (suc zero)))) h = refl
-table_at f (suc (suc (suc (suc (suc zero))))) h = refl
-table_at f (suc (suc (suc (suc (suc (suc zero)))))) h = refl
-table_at f (suc (suc (suc (suc (suc (suc (suc q))))))) h = absurd (omega arith)
-
-pub flag_at : (s : ChannelSet) (flags : List Bool) (q : ℕ) → flags ≡ by_channel (has s) → q < 7 → get_or flags q false ≡ has s q
-flag_at s flags q e h = ap (λ xs. get_or xs q false) e ∙ table_at (has s) q h

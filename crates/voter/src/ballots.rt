@@ -1,13 +1,14 @@
 //! The vote and the accusations.
-ghost use Rattle.std.specs.Prelude.{◌≡◌, ◌≤◌, ◌-◌, ◌++◌, ◌∷◌, ◌&&◌, [], ℕ, ℤ, List, Option, None, map, length, replicate};
+ghost use Rattle.std.specs.Prelude.{◌≡◌, ◌≤◌, ◌-◌, ◌++◌, ◌∷◌, [], ℕ, ℤ, List, Option, None, map, length, replicate};
 ghost use Rattle.std.specs.Ordering.{int_eq};
+ghost use Rattle.guards_model.specs.Channels.{place_or};
 ghost use Rattle.guards_model.specs.Contexts.{word_of};
 ghost use Rattle.guards_model.specs.Majority.{majority_of};
 ghost use Rattle.guards_model.specs.Voting.{cast_of, vote_of, contradicts as is_contradiction, is_wrong as is_wrong_by, accused_of};
 
 use crate::counting::{majority, word_at};
 use arrayvec::ArrayVec;
-use guards_base::{Ballot, ChanSet};
+use guards_base::{Ballot, Chan, ChanSet};
 
 // The words at one place of the ballots of the active channels that are there.
 fn votes_at(ballots: &[Option<Ballot>; 7], active: ChanSet, place: usize) -> ArrayVec<i64, 7>
@@ -79,15 +80,15 @@ fn is_wrong(ballot: &Option<Ballot>, voted: &[Option<i64>]) -> bool
     }
 }
 
-// Whether a channel is accused, where it is a member.
-fn is_accused(member: bool, ballot: &Option<Ballot>, voted: &[Option<i64>]) -> bool
-    ensures { result ≡ (member && is_wrong_by voted.now ballot.now) }
+// The active channels whose ballot is wrong by a vote.
+fn accused(ballots: &[Option<Ballot>; 7], active: ChanSet, voted: &[Option<i64>]) -> ChanSet
+    ensures { result ≡ accused_of active ballots.now voted.now }
 {
-    if member {
-        is_wrong(ballot, voted)
-    } else {
-        false
-    }
+    active.filter(
+        |c: Chan| -> bool
+            ensures { result ≡ is_wrong_by voted.entry.now (place_or ballots.entry.now c None) }
+        { is_wrong(&ballots[usize::from(c.index())], voted) },
+    )
 }
 
 /// The active channels whose ballot is not there or differs in some word from a vote that there is. The own channel's
@@ -101,10 +102,5 @@ pub fn accusations(
     ensures padded { (votes : List (Option ℤ)) (places : ℕ) → voted.now ≡ votes ++ replicate places None →
         result ≡ accused_of active ballots.now votes }
 {
-    let members = active.flags();
-    let mut accused = [false; 7];
-    for j in 0..7usize {
-        accused[j] = is_accused(members[j], &ballots[j], voted);
-    }
-    ChanSet::of_flags(&accused)
+    accused(ballots, active, voted)
 }

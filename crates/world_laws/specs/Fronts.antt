@@ -2,13 +2,12 @@
 use Rattle.std.specs.Prelude.{◌≡◌, ◌≤◌, ℕ, true, ◌++◌, length, None, Result, Err}
 use Rattle.guards_model.specs.declared.Slot.{Slot}
 use Rattle.guards_model.specs.Missions.{MissionValue}
-use Rattle.guards_model.specs.Network.{Log}
+use Rattle.guards_model.specs.Network.{Log, BusValue}
 use Rattle.guards_model.specs.Texts.{RecordValue}
 use Rattle.guards_runs.specs.Cycles.{cycle_at}
 use Rattle.guards_runs.specs.Disturbed.{halts}
 use Rattle.guards_runs.specs.Due.{carries_through}
 use Rattle.guards_world.specs.Worlds.{WorldValue, HaltValue, no_memory, last_entries}
-use Rattle.guards_world.specs.WorldCycle.{BusValue}
 use Rattle.guards_world.specs.Passing.{IsFront}
 
 -- The entries of a run end with the slot that stops it: by the facts of the log so far, no more was carried of cycle n than up

@@ -1,6 +1,5 @@
 //! The close of a cycle.
 ghost use Rattle.std.specs.Prelude.{◌≡◌, length, map, All, option_map};
-ghost use Rattle.std.specs.Option.{option_or};
 ghost use Rattle.channel_node.specs.Closing.{closed_value};
 ghost use Rattle.guards_world.specs.NodeLists.{HasDecision, closed_in, closing_of, first_closing};
 

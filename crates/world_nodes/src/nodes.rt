@@ -1,6 +1,5 @@
 //! The nodes of all channels, and what they lend.
-ghost use Rattle.std.specs.Prelude.{◌≡◌, ◌<◌, ◌≤◌, length, map, take, slice_get, Some, IfOk};
-ghost use Rattle.guards_model.specs.Channels.{numbers_below};
+ghost use Rattle.std.specs.Prelude.{◌≡◌, ◌<◌, length, map, slice_get, Some, IfOk};
 ghost use Rattle.guards_model.specs.Missions.{channels_of};
 ghost use Rattle.guards_nodes.specs.NodeCalls.{first_node};
 
@@ -34,8 +33,7 @@ impl Nodes {
         mission.prove_sizes();
         let mut list = Vec::new(alloc);
         for number in 0..mission.rules().channels {
-            let channel = Chan::new(number).unwrap();
-            list.push(Node::first(alloc, channel, mission)?)?;
+            list.push(Node::first(alloc, Chan::of(number), mission)?)?;
         }
         Ok(Nodes { list })
     }

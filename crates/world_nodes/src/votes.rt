@@ -7,8 +7,7 @@ ghost use Rattle.guards_world.specs.NodeLists.{ballots_arrived, with_votes, vote
 use crate::arrived::Arrived;
 use crate::nodes::Nodes;
 use channel_node::Node;
-use control_state::channel;
-use guards_base::{Ballot, Chan, ChannelLine, Mode, Sequence};
+use guards_base::{Ballot, Chan, ChannelLine, Mode, Sequence, table_by};
 use icn_frames::Body;
 use mission_type::Mission;
 use std::alloc::{AllocError, Global};
@@ -31,15 +30,11 @@ fn ballot<A: Arrived>(arrived: &A, from: Chan, me: Chan) -> Option<Ballot>
 fn ballots<A: Arrived>(arrived: &A, me: Chan) -> [Option<Ballot>; 7]
     ensures { result ≡ ballots_arrived (A.got arrived.now) me }
 {
-    [
-        ballot(arrived, channel(0), me),
-        ballot(arrived, channel(1), me),
-        ballot(arrived, channel(2), me),
-        ballot(arrived, channel(3), me),
-        ballot(arrived, channel(4), me),
-        ballot(arrived, channel(5), me),
-        ballot(arrived, channel(6), me),
-    ]
+    table_by(
+        |from: Chan| -> Option<Ballot>
+            ensures { result ≡ ballot_of (A.got arrived.entry.now from me) }
+        { ballot(arrived, from, me) },
+    )
 }
 
 // The vote of a node, and its line, where it runs.

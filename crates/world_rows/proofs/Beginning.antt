@@ -2,9 +2,9 @@
 use Rattle.std.proofs.Common.{◌≡◌, ◌<◌, ℕ, zero, suc, [], sym, subst, arith}
 use Rattle.std.specs.Prelude.{true}
 use Rattle.guards_model.specs.Missions.{MissionValue, IsMission, within}
-use Rattle.guards_model.specs.Network.{Log}
+use Rattle.guards_model.specs.Network.{Log, BusValue}
 use Rattle.guards_world.specs.Worlds.{WorldValue, StandsForWorld, first_world, last_entries}
-use Rattle.guards_world.specs.WorldCycle.{BusValue, MayCycle}
+use Rattle.guards_world.specs.WorldCycle.{MayCycle}
 use Rattle.world_laws.proofs.LogStands.{first_stands}
 
 positive : (n : ℕ) → within 1 2000 n ≡ true → 0 < n

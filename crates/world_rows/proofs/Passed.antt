@@ -3,10 +3,10 @@ use Rattle.std.proofs.Common.{◌≡◌, ◌<◌, ◌+◌, List, ◌∷◌, ◌+
 use Rattle.std.specs.Prelude.{OnOk, OnErr}
 use Rattle.guards_model.specs.BusRules.{RuleValue}
 use Rattle.guards_model.specs.Missions.{MissionValue, IsMission, bus_rules}
-use Rattle.guards_model.specs.Network.{EntryValue}
+use Rattle.guards_model.specs.Network.{EntryValue, BusValue}
 use Rattle.guards_model.specs.Texts.{RecordValue}
 use Rattle.guards_world.specs.Worlds.{WorldValue, HaltValue, disturbed, no_memory, first_world}
-use Rattle.guards_world.specs.WorldCycle.{BusValue, PassesCycle, MayCycle}
+use Rattle.guards_world.specs.WorldCycle.{PassesCycle, MayCycle}
 use Rattle.icn_world.specs.declared.world.Halt.{Halt}
 use Rattle.icn_world.specs.Halts.{halt_value, with_halt_value}
 use Rattle.run_laws.proofs.RunPassed.{begins, may_cycle, passes_on}

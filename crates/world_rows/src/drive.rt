@@ -96,12 +96,12 @@ fn pass<B: Bus, G: Gate, R: Threads + Wait + Sync>(
     bus: &mut B,
     gate: &G,
 ) -> Result<CycleRecord, Halt>
-    requires running { IsRunning B.may world.old (record { log = B.log bus.old; script = B.script bus.old }) }
+    requires running { IsRunning B.may world.old (B.seen bus.old) }
     requires below { world.old.done < world.old.mission.cycles }
-    ensures running { OnOk result (IsRunning B.may world.new (record { log = B.log bus.new; script = B.script bus.new })) }
+    ensures running { OnOk result (IsRunning B.may world.new (B.seen bus.new)) }
     ensures one_more { OnOk result (world.new.done ≡ world.old.done + 1) }
     ensures same { OnOk result (world.new.mission ≡ world.old.mission) }
-    ensures halted { OnErr result (MayCycle world.new (record { log = B.log bus.new; script = B.script bus.new })) }
+    ensures halted { OnErr result (MayCycle world.new (B.seen bus.new)) }
 {
     world.cycle(rt, alloc, bus, gate, &Plain)
 }
@@ -115,9 +115,9 @@ fn pass_all<B: Bus, G: Gate, R: Threads + Wait + Sync>(
     gate: &G,
     text: &mut Text,
 ) -> Result<Option<Halt>, AllocError>
-    requires running { IsRunning B.may world.old (record { log = B.log bus.old; script = B.script bus.old }) }
+    requires running { IsRunning B.may world.old (B.seen bus.old) }
     requires fresh { world.old.done ≡ 0 }
-    ensures { IfOk result (λ halt. IfSome halt (λ _. MayCycle world.new (record { log = B.log bus.new; script = B.script bus.new }))) }
+    ensures { IfOk result (λ halt. IfSome halt (λ _. MayCycle world.new (B.seen bus.new))) }
 {
     let cycles = world.mission().cycles();
     for cycle in 0..cycles {
@@ -138,7 +138,7 @@ fn ask_again<B: Bus, G: Gate, R: Threads + Wait + Sync>(
     bus: &mut B,
     gate: &G,
 ) -> Reached
-    requires { MayCycle world.old (record { log = B.log bus.old; script = B.script bus.old }) }
+    requires { MayCycle world.old (B.seen bus.old) }
 {
     let again = world.cycle(rt, alloc, bus, gate, &Plain).err();
     reach(world, again)
@@ -152,7 +152,7 @@ fn told<B: Bus, G: Gate, R: Threads + Wait + Sync>(
     bus: &mut B,
     gate: &G,
 ) -> Result<Outcome, AllocError>
-    requires running { IsRunning B.may world (record { log = B.log bus.old; script = B.script bus.old }) }
+    requires running { IsRunning B.may world (B.seen bus.old) }
     requires fresh { world.done ≡ 0 }
 {
     let mut text = Text::new(alloc);

@@ -4,7 +4,7 @@ use Rattle.std.specs.Prelude.{flat_map, slice_get}
 use Rattle.std.proofs.KnownBytes.{Appends-nil, Appends-trans}
 use Rattle.guards_io.specs.declared.Failed.{Failed}
 use Rattle.guards_model.specs.Texts.{TextValue}
-use Rattle.ideal_run.specs.Writes.{SinkView}
+use Rattle.guards_io.specs.Views.{SinkView}
 use Rattle.world_run.specs.Keeping.{HandsOver}
 
 pub gives_nothing : (a : SinkView) → HandsOver a a [] (Ok tt)

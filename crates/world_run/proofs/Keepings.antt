@@ -9,15 +9,15 @@ use Rattle.flight_log.proofs.LastKept.{kept_again}
 use Rattle.guards_model.specs.BusRules.{RuleValue}
 use Rattle.guards_model.specs.Missions.{ActuatorValue, MissionValue}
 use Rattle.guards_model.specs.Records.{shown}
-use Rattle.guards_model.specs.Network.{EntryValue, Log}
+use Rattle.guards_model.specs.Network.{EntryValue, Log, BusValue}
 use Rattle.guards_model.specs.Rounds.{Histories}
 use Rattle.guards_model.specs.Texts.{TextValue, Part, RecordValue, StopValue, part_text, cycle_part, stop_line}
 use Rattle.guards_world.specs.Worlds.{WorldValue, first_world}
-use Rattle.guards_world.specs.WorldCycle.{BusValue}
 use Rattle.guards_runs.specs.IdealReport.{head, last}
-use Rattle.ideal_run.specs.Writes.{SinkView, AppendsPart}
-use Rattle.ideal_run.specs.declared.output.WriteStop.{WriteStop}
-use Rattle.ideal_run.specs.declared.output.WriteStop.TheVariants as write
+use Rattle.guards_io.specs.Writes.{AppendsPart, Puts}
+use Rattle.guards_io.specs.Views.{SinkView}
+use Rattle.guards_io.specs.declared.writing.WriteStop.{WriteStop}
+use Rattle.guards_io.specs.declared.writing.WriteStop.TheVariants as write
 use Rattle.icn_world.specs.declared.world.Halt.{Halt}
 use Rattle.icn_world.specs.declared.world.Halt.TheVariants as halt
 use Rattle.icn_world.specs.Halts.{halt_value}
@@ -27,8 +27,8 @@ use Rattle.run_laws.specs.Driving.{CyclesRan, RunStopped, RunBroken, IsDriven, D
 use Rattle.run_laws.proofs.Driving.{driven_mission, driven_cycles, driven_log, driven_ran, driven_short}
 use Rattle.run_laws.proofs.Ends.{stopped_cycle, short_is_whole, short_is_stopped}
 use Rattle.world_run.specs.declared.stop.RunStop.{RunStop}
-use Rattle.world_run.specs.declared.stop.RunStop.TheVariants.{Disturbed, WriteFault, NoMemory}
-use Rattle.world_run.specs.Running.{Puts, WritesLine, cycle_text, stop_text, stop_value, run_told_by}
+use Rattle.world_run.specs.declared.stop.RunStop.TheVariants.{Halted, WriteFault}
+use Rattle.world_run.specs.Running.{WritesLine, cycle_text, stop_text, stop_value, run_told_by}
 use Rattle.world_run.specs.Keeping.{IsKept, Keeps, KeepsTo, KeptToHalt, KeptToStop, RunsLast, RunsToStopLast, TellsKept, kept_text}
 use Rattle.world_run.proofs.RunSteps.{head_is, last_is, part_is, stop_is}
 
@@ -163,14 +163,14 @@ module _ (may : List RuleValue → EntryValue → Type 0) (k : ℕ) (trace : Boo
         )
 
     pub last_halted : (h : Halt) (stop : RunStop) → KeptToHalt may k trace M o h start bus log → TellsKept h (kept_text (head M) log.parts) out out' stop → RunsLast may k trace M o start bus out out' (Err stop)
-    last_halted (halt.Disturbed cycle slot set active) (Disturbed cycle' slot' set' active') at told =
+    last_halted (halt.Disturbed cycle slot set active) (Halted (halt.Disturbed cycle' slot' set' active')) at told =
         subst (λ s. RunsToStopLast may k trace M o s start bus out out') (sym told.0) (stops (stop_value cycle slot set active) at told.1)
     last_halted (halt.Disturbed cycle slot set active) WriteFault at told = absurd told
-    last_halted (halt.Disturbed cycle slot set active) NoMemory (L, histories, ran, to, broken, is) told = (L, histories, cycle, ran, broken, told)
+    last_halted (halt.Disturbed cycle slot set active) (Halted halt.NoMemory) (L, histories, ran, to, broken, is) told = (L, histories, cycle, ran, broken, told)
     last_halted halt.NoMemory stop (L, histories, n, ran, part) told =
         subst (λ (x : RunStop). RunsLast may k trace M o start bus out out' (Err x)) (sym told.0) (L, histories, n, ran, part, told.1)
 
   -- memory ran out before the first cycle
-  pub not_begun : (out : SinkView) (gate : Option GateValue) → IsDriven o may M start (first_world M) start gate [] [] → RunsLast may k trace M o start start out out (Err NoMemory)
+  pub not_begun : (out : SinkView) (gate : Option GateValue) → IsDriven o may M start (first_world M) start gate [] [] → RunsLast may k trace M o start start out out (Err (Halted halt.NoMemory))
   not_begun out gate first =
       ([], [], 0, driven_log may M start (first_world M) start gate [] [] o first, driven_short may M start (first_world M) start gate [] [] o first, refl)

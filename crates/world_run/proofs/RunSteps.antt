@@ -1,5 +1,5 @@
 -- What one more cycle does to a run, whatever its answer, and what its first and last line do.
-use Rattle.std.proofs.Common.{◌≡◌, ◌≤◌, ◌<◌, inl, inr, ◌-◌, ℕ, suc, Bool, List, [], ◌∷◌, ◌++◌, length, Option, None, Some, Result, Ok, Err, refl, sym, ap, subst, ◌∙◌, append_assoc, arith}
+use Rattle.std.proofs.Common.{◌≡◌, ◌≤◌, inl, inr, ◌-◌, ℕ, suc, Bool, List, [], ◌∷◌, ◌++◌, length, Option, None, Some, Result, Ok, Err, refl, sym, ap, subst, ◌∙◌, append_assoc, arith}
 use Rattle.std.specs.Prelude.{min}
 use Rattle.std.specs.Io.KnownBytes.{Appends}
 use Rattle.std.proofs.KnownBytes.{Appends-nil, Appends-trans}
@@ -7,16 +7,16 @@ use Rattle.std.proofs.lemmas.Grind.{flat_map-append}
 use Rattle.std.proofs.lemmas.List.{append-nil}
 use Rattle.guards_model.specs.BusRules.{RuleValue}
 use Rattle.guards_model.specs.Missions.{MissionValue, ActuatorValue}
-use Rattle.guards_model.specs.Network.{EntryValue, Log}
+use Rattle.guards_model.specs.Network.{EntryValue, Log, BusValue}
 use Rattle.guards_model.specs.Records.{shown}
 use Rattle.guards_model.specs.Rounds.{Histories}
 use Rattle.guards_model.specs.Texts.{TextValue, Part, RecordValue, StopValue, part_text, text_of_parts, cycle_part, head_line, last_line, done_line, out_line, stop_line}
 use Rattle.guards_world.specs.Worlds.{WorldValue, disturbed, no_memory, first_world}
-use Rattle.guards_world.specs.WorldCycle.{BusValue}
 use Rattle.guards_runs.specs.IdealReport.{head, last}
-use Rattle.ideal_run.specs.Writes.{SinkView, AppendsPart, AppendsFront}
-use Rattle.ideal_run.specs.declared.output.WriteStop.{WriteStop}
-use Rattle.ideal_run.specs.declared.output.WriteStop.TheVariants as write
+use Rattle.guards_io.specs.Writes.{AppendsPart, AppendsFront, Puts}
+use Rattle.guards_io.specs.Views.{SinkView}
+use Rattle.guards_io.specs.declared.writing.WriteStop.{WriteStop}
+use Rattle.guards_io.specs.declared.writing.WriteStop.TheVariants as write
 use Rattle.icn_world.specs.declared.world.Halt.{Halt}
 use Rattle.icn_world.specs.declared.world.Halt.TheVariants as halt
 use Rattle.icn_world.specs.Halts.{halt_value}
@@ -27,8 +27,8 @@ use Rattle.run_laws.specs.Driving.{CyclesRan, RunStopped, RunBroken, IsDriven, D
 use Rattle.run_laws.proofs.Driving.{driven_mission, driven_cycles, driven_log, driven_ran, driven_short}
 use Rattle.run_laws.proofs.Ends.{stopped_cycle, within_whole, size_of_told, text_whole, text_stopped}
 use Rattle.world_run.specs.declared.stop.RunStop.{RunStop}
-use Rattle.world_run.specs.declared.stop.RunStop.TheVariants.{Disturbed, WriteFault, NoMemory}
-use Rattle.world_run.specs.Running.{WroteParts, EndsWith, Runs, RunsToStop, RunsToWriteFault, RunsOutOfMemory, IsAt, GoesTo, TellsHalt, Puts, WritesLine, bare_text, cycle_text, stop_text, stop_value, run_told_by, words_line}
+use Rattle.world_run.specs.declared.stop.RunStop.TheVariants.{Halted, WriteFault}
+use Rattle.world_run.specs.Running.{WroteParts, EndsWith, Runs, RunsToStop, RunsToWriteFault, RunsOutOfMemory, IsAt, GoesTo, TellsHalt, WritesLine, bare_text, cycle_text, stop_text, stop_value, run_told_by, words_line}
 
 -- ---- what is written
 
@@ -210,13 +210,13 @@ module _ (may : List RuleValue → EntryValue → Type 0) (trace : Bool) (M : Mi
         (K, histories, w.done, ran, broken, front_is_written K (same trace) kept, ap (λ (x : SinkView). x.faults) kept ∙ at.4)
 
     pub step_halted : (h : Halt) (stop : RunStop) → Drives o may M start w L histories (Err (halt_value h)) new after gate_after → TellsHalt h out out' stop → Runs may trace M o start after begun out' (Err stop)
-    step_halted (halt.Disturbed cycle slot set active) (Disturbed cycle' slot' set' active') d line =
+    step_halted (halt.Disturbed cycle slot set active) (Halted (halt.Disturbed cycle' slot' set' active')) d line =
         subst (λ s. RunsToStop may trace M o s start after begun out') (sym line.0) (stops (stop_value cycle slot set active) d line.1)
     step_halted (halt.Disturbed cycle slot set active) WriteFault d line = absurd line
-    step_halted (halt.Disturbed cycle slot set active) NoMemory d line = stops_short (stop_value cycle slot set active) d line
-    step_halted halt.NoMemory (Disturbed cycle' slot' set' active') d line = absurd cc
+    step_halted (halt.Disturbed cycle slot set active) (Halted halt.NoMemory) d line = stops_short (stop_value cycle slot set active) d line
+    step_halted halt.NoMemory (Halted (halt.Disturbed cycle' slot' set' active')) d line = absurd cc
     step_halted halt.NoMemory WriteFault d line = absurd cc
-    step_halted halt.NoMemory NoMemory d line = runs_out d line.1
+    step_halted halt.NoMemory (Halted halt.NoMemory) d line = runs_out d line.1
 
   -- ---- the first and the last line
 

@@ -7,7 +7,7 @@ use Rattle.guards_model.specs.declared.Slot.TheVariants.{Switch}
 use Rattle.guards_model.specs.BusRules.{RuleValue}
 use Rattle.guards_model.specs.Channels.{ChannelSet, place_or}
 use Rattle.guards_model.specs.Missions.{MissionValue, IsMission, bus_rules}
-use Rattle.guards_model.specs.Network.{EntryValue}
+use Rattle.guards_model.specs.Network.{EntryValue, BusValue}
 use Rattle.guards_model.specs.Records.{shown_line}
 use Rattle.guards_model.specs.Texts.{LineValue, RecordValue, StopValue, part_text}
 use Rattle.guards_model.specs.CheckTexts.{summary_part}
@@ -15,10 +15,11 @@ use Rattle.guards_model.proofs.BoolTests.{both}
 use Rattle.guards_runs.specs.Cycles.{Cycle, cycles_before, cycle_at}
 use Rattle.guards_runs.specs.Report.{line_of, channels_running_in}
 use Rattle.guards_world.specs.Worlds.{WorldValue, disturbed, no_memory, first_world}
-use Rattle.guards_world.specs.WorldCycle.{BusValue, PassesCycle}
-use Rattle.ideal_run.specs.Writes.{SinkView, AppendsPart}
-use Rattle.ideal_run.specs.declared.output.WriteStop.{WriteStop}
-use Rattle.ideal_run.specs.declared.output.WriteStop.TheVariants as write
+use Rattle.guards_world.specs.WorldCycle.{PassesCycle}
+use Rattle.guards_io.specs.Writes.{AppendsPart, Puts}
+use Rattle.guards_io.specs.Views.{SinkView}
+use Rattle.guards_io.specs.declared.writing.WriteStop.{WriteStop}
+use Rattle.guards_io.specs.declared.writing.WriteStop.TheVariants as write
 use Rattle.icn_world.specs.declared.world.Halt.{Halt}
 use Rattle.icn_world.specs.declared.world.Halt.TheVariants as halt
 use Rattle.icn_world.specs.Halts.{halt_value}
@@ -28,9 +29,9 @@ use Rattle.run_laws.specs.Summaries.{joins_in, removals_in, summary}
 use Rattle.run_laws.proofs.RunContinues.{stop_breaks_off, stop_cycle}
 use Rattle.run_laws.proofs.RunPassed.{begins, passes_on, ran_cycles, ran_short}
 use Rattle.world_run.specs.declared.stop.RunStop.{RunStop}
-use Rattle.world_run.specs.declared.stop.RunStop.TheVariants.{Disturbed, WriteFault, NoMemory}
+use Rattle.world_run.specs.declared.stop.RunStop.TheVariants.{Halted, WriteFault}
 use Rattle.world_run.specs.declared.tally.Tally.{Tally}
-use Rattle.world_run.specs.Running.{TellsHalt, Puts, WritesLine, stop_text, stop_value, run_told_by}
+use Rattle.world_run.specs.Running.{TellsHalt, WritesLine, stop_text, stop_value, run_told_by}
 use Rattle.world_run.specs.Tallying.{IsTallyOf, IsTallied, Summarizes, SummarizesToStop, TalliesTo, first_votes, shown_votes, summary_of}
 use Rattle.world_run.proofs.RunSteps.{stop_is}
 
@@ -84,26 +85,26 @@ module _ (may : List RuleValue → EntryValue → Type 0) (M : MissionValue) (st
         let at_cycle : s.cycle ≡ w.done = stop_cycle w.done (cycle_at M (L ++ now) w.done) s stopped.stopped in
         (L ++ now, histories, ran, subst (λ n. HasRunToStop M n s (L ++ now) histories) (sym at_cycle) stopped, subst (WritesLine out out') (stop_is s) line)
 
-    stops_short : (s : StopValue) → PassesCycle may w.spent w bus (Err (disturbed s)) new after → out' ≡ out → Summarizes may number M start after out out' (Err NoMemory)
+    stops_short : (s : StopValue) → PassesCycle may w.spent w bus (Err (disturbed s)) new after → out' ≡ out → Summarizes may number M start after out out' (Err (Halted halt.NoMemory))
     stops_short s cycled kept =
         let (L, histories, between, tallied) = at in
         let (now, ran, stopped, same) = passes_on may start bus w L L histories M (Err (disturbed s)) new after between below cycled (λ unspent none. absurd cc) in
         (L ++ now, histories, w.done, ran, stop_breaks_off M w.done s (L ++ now) histories stopped, kept)
 
-    runs_out : PassesCycle may w.spent w bus (Err no_memory) new after → CarriesUpToStop w bus (Err no_memory) after → out' ≡ out → Summarizes may number M start after out out' (Err NoMemory)
+    runs_out : PassesCycle may w.spent w bus (Err no_memory) new after → CarriesUpToStop w bus (Err no_memory) after → out' ≡ out → Summarizes may number M start after out out' (Err (Halted halt.NoMemory))
     runs_out cycled no_further kept =
         let (L, histories, between, tallied) = at in
         let (now, ran, part, same) = passes_on may start bus w L L histories M (Err no_memory) new after between below cycled no_further in
         (L ++ now, histories, w.done, ran, part, kept)
 
     pub tally_halted : (h : Halt) (stop : RunStop) → PassesCycle may w.spent w bus (Err (halt_value h)) new after → CarriesUpToStop w bus (Err (halt_value h)) after → TellsHalt h out out' stop → Summarizes may number M start after out out' (Err stop)
-    tally_halted (halt.Disturbed cycle slot set active) (Disturbed cycle' slot' set' active') cycled no_further line =
+    tally_halted (halt.Disturbed cycle slot set active) (Halted (halt.Disturbed cycle' slot' set' active')) cycled no_further line =
         subst (λ s. SummarizesToStop may number M s start after out out') (sym line.0) (stops (stop_value cycle slot set active) cycled line.1)
     tally_halted (halt.Disturbed cycle slot set active) WriteFault cycled no_further line = absurd line
-    tally_halted (halt.Disturbed cycle slot set active) NoMemory cycled no_further line = stops_short (stop_value cycle slot set active) cycled line
-    tally_halted halt.NoMemory (Disturbed cycle' slot' set' active') cycled no_further line = absurd cc
+    tally_halted (halt.Disturbed cycle slot set active) (Halted halt.NoMemory) cycled no_further line = stops_short (stop_value cycle slot set active) cycled line
+    tally_halted halt.NoMemory (Halted (halt.Disturbed cycle' slot' set' active')) cycled no_further line = absurd cc
     tally_halted halt.NoMemory WriteFault cycled no_further line = absurd cc
-    tally_halted halt.NoMemory NoMemory cycled no_further line = runs_out cycled no_further line.1
+    tally_halted halt.NoMemory (Halted halt.NoMemory) cycled no_further line = runs_out cycled no_further line.1
 
   -- the summary of all cycles
   module _ (number : ℕ) (w : WorldValue) (bus : BusValue) (out out' : SinkView) (t : Tally) (at : IsTallied may M start w bus t) (all : w.done ≡ M.cycles) where

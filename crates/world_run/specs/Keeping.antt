@@ -7,19 +7,19 @@ use Rattle.guards_io.specs.declared.Failed.{Failed}
 use Rattle.guards_io.specs.Causes.{Rose}
 use Rattle.guards_model.specs.BusRules.{RuleValue}
 use Rattle.guards_model.specs.Missions.{ActuatorValue, MissionValue}
-use Rattle.guards_model.specs.Network.{EntryValue, Log}
+use Rattle.guards_model.specs.Network.{EntryValue, Log, BusValue}
 use Rattle.guards_model.specs.Rounds.{Histories}
 use Rattle.guards_model.specs.Texts.{TextValue, StopValue, stop_line}
 use Rattle.guards_world.specs.Worlds.{WorldValue}
-use Rattle.guards_world.specs.WorldCycle.{BusValue}
 use Rattle.icn_world.specs.declared.world.Halt.{Halt}
 use Rattle.icn_world.specs.declared.world.Halt.TheVariants as halt
-use Rattle.ideal_run.specs.Writes.{SinkView, AppendsPart}
+use Rattle.guards_io.specs.Writes.{AppendsPart}
+use Rattle.guards_io.specs.Views.{SinkView}
 use Rattle.run_laws.specs.Runs.{HasCarried, with_unfinished}
 use Rattle.output_gate.specs.Gates.{GateValue}
 use Rattle.run_laws.specs.Driving.{CyclesRan, RunStopped, RunBroken, IsDriven, last_told, short_told}
 use Rattle.world_run.specs.declared.stop.RunStop.{RunStop}
-use Rattle.world_run.specs.declared.stop.RunStop.TheVariants.{Disturbed, WriteFault, NoMemory}
+use Rattle.world_run.specs.declared.stop.RunStop.TheVariants.{Halted, WriteFault}
 use Rattle.world_run.specs.Running.{WritesLine, stop_text, stop_value}
 
 -- what handing a text to a sink does: it was written, or the sink failed and a front of it was
@@ -68,9 +68,9 @@ module _ (may : List RuleValue → EntryValue → Type 0) (k : ℕ) (trace : Boo
   -- What running the mission and telling its last k cycles does, by its answer.
   abbrev pub RunsLast : BusValue → BusValue → SinkView → SinkView → Result (Unit {0}) RunStop → Type 0
   RunsLast bus bus' out out' (Ok _) = RunsWholeLast bus bus' out out'
-  RunsLast bus bus' out out' (Err (Disturbed cycle slot set active)) = RunsToStopLast (stop_value cycle slot set active) bus bus' out out'
+  RunsLast bus bus' out out' (Err (Halted (halt.Disturbed cycle slot set active))) = RunsToStopLast (stop_value cycle slot set active) bus bus' out out'
   RunsLast bus bus' out out' (Err WriteFault) = RunsUnwrittenLast bus bus' out out'
-  RunsLast bus bus' out out' (Err NoMemory) = RunsShortLast bus bus' out out'
+  RunsLast bus bus' out out' (Err (Halted halt.NoMemory)) = RunsShortLast bus bus' out out'
 
   -- ---- what is kept of its cycles
 
@@ -98,8 +98,8 @@ module _ (may : List RuleValue → EntryValue → Type 0) (k : ℕ) (trace : Boo
 
 -- what telling a halt does, behind what was kept: all of it and the stop's line were written, or there was no memory for it
 abbrev pub TellsKept : Halt → TextValue → SinkView → SinkView → RunStop → Type 0
-TellsKept (halt.Disturbed cycle slot set active) before old new (Disturbed cycle' slot' set' active') =
+TellsKept (halt.Disturbed cycle slot set active) before old new (Halted (halt.Disturbed cycle' slot' set' active')) =
     (stop_value cycle' slot' set' active' ≡ stop_value cycle slot set active) × WritesLine old new (before ++ stop_text (stop_value cycle slot set active))
 TellsKept (halt.Disturbed cycle slot set active) before old new WriteFault = ⊥
-TellsKept (halt.Disturbed cycle slot set active) before old new NoMemory = new ≡ old
-TellsKept halt.NoMemory before old new stop = (stop ≡ NoMemory) × (new ≡ old)
+TellsKept (halt.Disturbed cycle slot set active) before old new (Halted halt.NoMemory) = new ≡ old
+TellsKept halt.NoMemory before old new stop = (stop ≡ (Halted halt.NoMemory)) × (new ≡ old)

@@ -6,25 +6,22 @@ use Rattle.guards_model.specs.declared.Slot.{Slot}
 use Rattle.guards_model.specs.BusRules.{RuleValue}
 use Rattle.guards_model.specs.Channels.{ChannelSet}
 use Rattle.guards_model.specs.Missions.{MissionValue, ActuatorValue}
-use Rattle.guards_model.specs.Network.{EntryValue, Log}
+use Rattle.guards_model.specs.Network.{EntryValue, Log, BusValue}
 use Rattle.guards_model.specs.Rounds.{Histories}
 use Rattle.guards_model.specs.Records.{shown}
 use Rattle.guards_model.specs.Texts.{TextValue, Part, RecordValue, StopValue, part_text, text_of_parts, cycle_part, out_line, stop_line}
 use Rattle.guards_world.specs.Worlds.{WorldValue}
-use Rattle.guards_world.specs.WorldCycle.{BusValue}
-use Rattle.ideal_run.specs.Writes.{SinkView, AppendsPart, AppendsFront}
-use Rattle.ideal_run.specs.declared.output.WriteStop.{WriteStop}
-use Rattle.ideal_run.specs.declared.output.WriteStop.TheVariants as write
+use Rattle.guards_io.specs.Writes.{AppendsPart, AppendsFront}
+use Rattle.guards_io.specs.Views.{SinkView}
+use Rattle.guards_io.specs.declared.writing.WriteStop.{WriteStop}
+use Rattle.guards_io.specs.declared.writing.WriteStop.TheVariants as write
 use Rattle.icn_world.specs.declared.world.Halt.{Halt}
 use Rattle.icn_world.specs.declared.world.Halt.TheVariants as halt
 use Rattle.run_laws.specs.Runs.{HasCarried, with_unfinished}
 use Rattle.output_gate.specs.Gates.{GateValue}
 use Rattle.run_laws.specs.Driving.{CyclesRan, RunStopped, RunBroken, IsDriven, parts_of_whole, parts_driven, told_text}
 use Rattle.world_run.specs.declared.stop.RunStop.{RunStop}
-use Rattle.world_run.specs.declared.stop.RunStop.TheVariants.{Disturbed, WriteFault, NoMemory}
-
-abbrev pub bus_value : Log → List RuleValue → BusValue
-bus_value log script = record { log = log; script = script }
+use Rattle.world_run.specs.declared.stop.RunStop.TheVariants.{Halted, WriteFault}
 
 abbrev pub stop_value : ℕ → Slot → ChannelSet → ChannelSet → StopValue
 stop_value cycle slot set active = record { cycle = cycle; slot = slot; set = set; active = active }
@@ -47,12 +44,6 @@ cycle_text trace M gate part = bare_text trace M part ++ words_line gate
 -- the line of a stop
 unfoldable pub stop_text : StopValue → TextValue
 stop_text stop = stop_line stop
-
--- What writing a part does: it was written, or the sink failed and a front of it was, or there was no memory for it.
-abbrev pub Puts : SinkView → SinkView → TextValue → Result (Unit {0}) WriteStop → Type 0
-Puts old new part (Ok _) = Appends old.written new.written part × (new.faults ≡ old.faults)
-Puts old new part (Err write.Failed) = AppendsPart old.written new.written part × Rose old.faults new.faults
-Puts old new part (Err write.Memory) = new ≡ old
 
 -- A line was written, or, only where the sink's faults rose, a front of it.
 abbrev pub WritesLine : SinkView → SinkView → TextValue → Type 0
@@ -115,9 +106,9 @@ module _ (may : List RuleValue → EntryValue → Type 0) (trace : Bool) (M : Mi
   -- What running the mission does, by its answer.
   abbrev pub Runs : BusValue → BusValue → SinkView → SinkView → Result (Unit {0}) RunStop → Type 0
   Runs bus bus' out out' (Ok _) = RunsWhole bus bus' out out'
-  Runs bus bus' out out' (Err (Disturbed cycle slot set active)) = RunsToStop (stop_value cycle slot set active) bus bus' out out'
+  Runs bus bus' out out' (Err (Halted (halt.Disturbed cycle slot set active))) = RunsToStop (stop_value cycle slot set active) bus bus' out out'
   Runs bus bus' out out' (Err WriteFault) = RunsToWriteFault bus bus' out out'
-  Runs bus bus' out out' (Err NoMemory) = RunsOutOfMemory bus bus' out out'
+  Runs bus bus' out out' (Err (Halted halt.NoMemory)) = RunsOutOfMemory bus bus' out out'
 
   -- Between two cycles of a run that began with this bus and this sink: the head line and the parts of the cycles were written.
   abbrev pub IsAt : BusValue → SinkView → WorldValue → BusValue → Option GateValue → SinkView → Type 0
@@ -133,17 +124,17 @@ module _ (may : List RuleValue → EntryValue → Type 0) (trace : Bool) (M : Mi
 
 -- what telling a stop does: its line was written, or there was no memory for it
 abbrev pub TellsStop : StopValue → SinkView → SinkView → RunStop → Type 0
-TellsStop stop old new (Disturbed cycle slot set active) = (stop_value cycle slot set active ≡ stop) × WritesLine old new (stop_text stop)
+TellsStop stop old new (Halted (halt.Disturbed cycle slot set active)) = (stop_value cycle slot set active ≡ stop) × WritesLine old new (stop_text stop)
 TellsStop stop old new WriteFault = ⊥
-TellsStop stop old new NoMemory = new ≡ old
+TellsStop stop old new (Halted halt.NoMemory) = new ≡ old
 
 -- what telling a halt does
 abbrev pub TellsHalt : Halt → SinkView → SinkView → RunStop → Type 0
 TellsHalt (halt.Disturbed cycle slot set active) old new stop = TellsStop (stop_value cycle slot set active) old new stop
-TellsHalt halt.NoMemory old new stop = (stop ≡ NoMemory) × (new ≡ old)
+TellsHalt halt.NoMemory old new stop = (stop ≡ (Halted halt.NoMemory)) × (new ≡ old)
 
 -- how a run ends where a part was not written
 abbrev pub run_told_by : Result (Unit {0}) WriteStop → Result (Unit {0}) RunStop
 run_told_by (Ok done) = Ok done
 run_told_by (Err write.Failed) = Err WriteFault
-run_told_by (Err write.Memory) = Err NoMemory
+run_told_by (Err write.Memory) = Err (Halted halt.NoMemory)

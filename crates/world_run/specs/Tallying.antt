@@ -4,18 +4,19 @@ use Rattle.std.specs.Io.KnownBytes.{Appends}
 use Rattle.guards_io.specs.Causes.{Rose}
 use Rattle.guards_model.specs.BusRules.{RuleValue}
 use Rattle.guards_model.specs.Missions.{MissionValue}
-use Rattle.guards_model.specs.Network.{EntryValue, Log}
+use Rattle.guards_model.specs.Network.{EntryValue, Log, BusValue}
 use Rattle.guards_model.specs.Rounds.{Histories}
 use Rattle.guards_model.specs.Texts.{TextValue, LineValue, StopValue, part_text, stop_line}
 use Rattle.guards_model.specs.CheckTexts.{summary_part}
 use Rattle.guards_runs.specs.Cycles.{Past, cycles_before}
 use Rattle.guards_world.specs.Worlds.{WorldValue}
-use Rattle.guards_world.specs.WorldCycle.{BusValue}
-use Rattle.ideal_run.specs.Writes.{SinkView, AppendsPart}
+use Rattle.guards_io.specs.Writes.{AppendsPart}
+use Rattle.guards_io.specs.Views.{SinkView}
 use Rattle.run_laws.specs.Runs.{HasCarried, HasRunCycles, HasRunToStop, HasRunPart, IsBetween}
 use Rattle.run_laws.specs.Summaries.{joins_in, removals_in, last_votes, summary}
+use Rattle.icn_world.specs.declared.world.Halt.TheVariants as halt
 use Rattle.world_run.specs.declared.stop.RunStop.{RunStop}
-use Rattle.world_run.specs.declared.stop.RunStop.TheVariants.{Disturbed, WriteFault, NoMemory}
+use Rattle.world_run.specs.declared.stop.RunStop.TheVariants.{Halted, WriteFault}
 use Rattle.world_run.specs.declared.tally.Tally.{Tally}
 use Rattle.world_run.specs.Running.{stop_value, WritesLine}
 
@@ -57,11 +58,11 @@ module _ (may : List RuleValue → EntryValue → Type 0) (number : ℕ) (M : Mi
   Summarizes bus bus' out out' (Ok _) =
       (L : Log) × (histories : Histories) × HasCarried may M bus bus' L × HasRunCycles M M.cycles L histories
       × Appends out.written out'.written (summary number M L) × (out'.faults ≡ out.faults)
-  Summarizes bus bus' out out' (Err (Disturbed cycle slot set active)) = SummarizesToStop (stop_value cycle slot set active) bus bus' out out'
+  Summarizes bus bus' out out' (Err (Halted (halt.Disturbed cycle slot set active))) = SummarizesToStop (stop_value cycle slot set active) bus bus' out out'
   Summarizes bus bus' out out' (Err WriteFault) =
       (L : Log) × (histories : Histories) × HasCarried may M bus bus' L × HasRunCycles M M.cycles L histories
       × AppendsPart out.written out'.written (summary number M L) × Rose out.faults out'.faults
-  Summarizes bus bus' out out' (Err NoMemory) =
+  Summarizes bus bus' out out' (Err (Halted halt.NoMemory)) =
       (L : Log) × (histories : Histories) × (n : ℕ) × HasCarried may M bus bus' L × HasRunPart M n L histories × (out' ≡ out)
 
   -- what goes on with the run until n cycles ran does, by its answer

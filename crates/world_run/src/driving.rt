@@ -1,16 +1,14 @@
 //! Passes a cycle of a run, and its exchange with the actuator, if there is one.
 ghost use Rattle.std.specs.Prelude.{◌≡◌, ◌<◌, Option, Some, Result, length, option_map};
 ghost use Rattle.guards_model.specs.Missions.{MissionValue, ActuatorValue};
-ghost use Rattle.guards_model.specs.Network.{Log};
+ghost use Rattle.guards_model.specs.Network.{Log, BusValue};
 ghost use Rattle.guards_model.specs.Rounds.{Histories};
 ghost use Rattle.guards_model.specs.Settled.{SettledValue};
-ghost use Rattle.guards_world.specs.WorldCycle.{BusValue};
 ghost use Rattle.guards_world.specs.Worlds.{HaltValue};
 ghost use Rattle.icn_world.specs.Halts.{halt_value, with_halt_value};
 ghost use Rattle.output_gate.specs.Exchanging.{MayExchange};
 ghost use Rattle.output_gate.specs.Gates.{GateValue};
 ghost use Rattle.run_laws.specs.Driving.{Drives, Exchanged, IsDriven, exchange_halt, first_gate, with_part};
-ghost use Rattle.world_run.specs.Running.{bus_value};
 
 use ctx_lock::Gate;
 use guards_base::CycleRecord;
@@ -61,8 +59,8 @@ fn exchange_with<B: Bus, Q: Limit>(
     part: &CycleRecord,
 ) -> Result<(), Halt>
     requires { (s : SettledValue) × (world.now.settled ≡ Some s) × MayExchange world.now.mission.rules.version (length gate.old.words) part.now s }
-    ensures { Exchanged B.may world.now.mission.rules.version part.now world.now.settled (bus_value (B.log bus.old) (B.script bus.old))
-        (bus_value (B.log bus.new) (B.script bus.new)) (Some gate.old) (Some gate.new) (with_halt_value result) }
+    ensures { Exchanged B.may world.now.mission.rules.version part.now world.now.settled (B.seen bus.old)
+        (B.seen bus.new) (Some gate.old) (Some gate.new) (with_halt_value result) }
 {
     let Some(settled) = world.settled() else {
         return Err(Halt::NoMemory);
@@ -85,8 +83,8 @@ fn exchange<B: Bus, Q: Limit>(
 ) -> Result<(), Halt>
     requires { (g : GateValue) → actuator.old ≡ Some g → (s : SettledValue) × (world.now.settled ≡ Some s) ×
         MayExchange world.now.mission.rules.version (length g.words) part.now s }
-    ensures { Exchanged B.may world.now.mission.rules.version part.now world.now.settled (bus_value (B.log bus.old) (B.script bus.old))
-        (bus_value (B.log bus.new) (B.script bus.new)) actuator.old actuator.new (with_halt_value result) }
+    ensures { Exchanged B.may world.now.mission.rules.version part.now world.now.settled (B.seen bus.old)
+        (B.seen bus.new) actuator.old actuator.new (with_halt_value result) }
 {
     match actuator {
         Some(gate) => exchange_with(alloc, world, bus, limit, gate, part),
@@ -106,7 +104,7 @@ fn exchanged<B: Bus, Q: Limit>(
     requires { (g : GateValue) → actuator.old ≡ Some g → (s : SettledValue) × (world.now.settled ≡ Some s) ×
         MayExchange world.now.mission.rules.version (length g.words) part s }
     ensures { (ended : Result (Unit {0}) HaltValue) × Exchanged B.may world.now.mission.rules.version part world.now.settled
-        (bus_value (B.log bus.old) (B.script bus.old)) (bus_value (B.log bus.new) (B.script bus.new)) actuator.old actuator.new ended
+        (B.seen bus.old) (B.seen bus.new) actuator.old actuator.new ended
         × (with_halt_value result ≡ with_part part ended) }
 {
     match exchange(alloc, world, bus, limit, actuator, &part) {
@@ -128,10 +126,10 @@ pub fn pass<B: Bus, G: Gate, C: Calls + Sync, R: Threads + Wait + Sync, Q: Limit
 ) -> Result<CycleRecord, Halt>
     requires below { world.old.done < world.old.mission.cycles }
     requires driven { (o : Option ActuatorValue) × (M : MissionValue) × (start : BusValue) × (L : Log) × (histories : Histories) ×
-        IsDriven o B.may M start world.old (bus_value (B.log bus.old) (B.script bus.old)) actuator.old L histories }
+        IsDriven o B.may M start world.old (B.seen bus.old) actuator.old L histories }
     ensures { (o : Option ActuatorValue) (M : MissionValue) (start : BusValue) (L : Log) (histories : Histories) →
-        IsDriven o B.may M start world.old (bus_value (B.log bus.old) (B.script bus.old)) actuator.old L histories →
-        Drives o B.may M start world.old L histories (with_halt_value result) world.new (bus_value (B.log bus.new) (B.script bus.new)) actuator.new }
+        IsDriven o B.may M start world.old (B.seen bus.old) actuator.old L histories →
+        Drives o B.may M start world.old L histories (with_halt_value result) world.new (B.seen bus.new) actuator.new }
 {
     match world.cycle(rt, alloc, bus, gate, natives) {
         Ok(part) => exchanged(alloc, world, bus, limit, actuator, part),

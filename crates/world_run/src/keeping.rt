@@ -1,14 +1,13 @@
 //! Runs a mission and tells its last cycles, once it has ended.
-ghost use Rattle.std.specs.Prelude.{◌≡◌, ◌≤◌, ◌<◌, [], ◌∷◌, ◌++◌, suc, flat_map, ℕ, length, Option, Some, option_map};
-ghost use Rattle.flight_log.specs.Kept.{kept};
+ghost use Rattle.std.specs.Prelude.{◌≡◌, ◌≤◌, ◌<◌, [], ◌++◌, suc, flat_map, ℕ, length, Option, Some, option_map};
 ghost use Rattle.guards_model.specs.Missions.{ActuatorValue, MissionValue, IsMission, bus_rules};
 ghost use Rattle.guards_world.specs.Worlds.{first_world};
-ghost use Rattle.guards_world.specs.WorldCycle.{BusValue};
+ghost use Rattle.guards_model.specs.Network.{BusValue};
 ghost use Rattle.output_gate.specs.Gates.{GateValue};
 ghost use Rattle.run_laws.specs.Driving.{first_gate};
 ghost use Rattle.guards_runs.specs.IdealReport.{last};
-ghost use Rattle.ideal_run.specs.Writes.{sink_view};
-ghost use Rattle.world_run.specs.Running.{bus_value, Puts, cycle_text};
+ghost use Rattle.guards_io.specs.Writes.{Puts};
+ghost use Rattle.world_run.specs.Running.{cycle_text};
 ghost use Rattle.world_run.specs.Keeping.{HandsOver, Keeps, IsKept, KeepsTo, RunsLast, TellsKept, kept_text};
 
 use crate::driving::{first_gate, pass};
@@ -18,10 +17,9 @@ use crate::writing::{cycle_text, end_text, head_text, stop_text};
 use ctx_lock::Gate;
 use flight_log::FlightLog;
 use guards_base::{Bytes, CycleRecord, Text};
-use guards_io::{Failed, Sink};
+use guards_io::{Failed, Sink, WriteStop, write_all};
 use icn_bus::Bus;
 use icn_world::{Halt, World};
-use ideal_run::{WriteStop, write_all};
 use mission_type::Mission;
 use native_calls::Calls;
 use output_gate::{Limit, OutputGate};
@@ -31,16 +29,14 @@ use std::thread::Threads;
 
 /// Hands a piece to the sink.
 fn give<K: Sink>(out: &mut K, piece: &[u8]) -> Result<(), Failed>
-    ensures { HandsOver (sink_view (K.written out.old) (K.faults out.old))
-        (sink_view (K.written out.new) (K.faults out.new)) piece.now result }
+    ensures { HandsOver (K.seen out.old) (K.seen out.new) piece.now result }
 {
     write_all(out, piece)
 }
 
 /// Hands over the parts that were kept, one after the other.
 fn give_parts<K: Sink>(out: &mut K, log: &FlightLog) -> Result<(), Failed>
-    ensures { HandsOver (sink_view (K.written out.old) (K.faults out.old))
-        (sink_view (K.written out.new) (K.faults out.new)) (flat_map (λ text. text) log.now.parts) result }
+    ensures { HandsOver (K.seen out.old) (K.seen out.new) (flat_map (λ text. text) log.now.parts) result }
 {
     for place in 0..log.len() {
         give(out, log.get(place).as_slice())?;
@@ -50,8 +46,7 @@ fn give_parts<K: Sink>(out: &mut K, log: &FlightLog) -> Result<(), Failed>
 
 /// Hands over a head line, the parts that were kept, and a last line.
 fn give_kept<K: Sink>(out: &mut K, head: &Text, log: &FlightLog, line: &Text) -> Result<(), Failed>
-    ensures { HandsOver (sink_view (K.written out.old) (K.faults out.old))
-        (sink_view (K.written out.new) (K.faults out.new)) (kept_text head.now log.now.parts ++ line.now) result }
+    ensures { HandsOver (K.seen out.old) (K.seen out.new) (kept_text head.now log.now.parts ++ line.now) result }
 {
     give(out, head.as_str().as_bytes())?;
     give_parts(out, log)?;
@@ -66,8 +61,7 @@ fn put_kept<K: Sink>(
     log: &FlightLog,
     out: &mut K,
 ) -> Result<(), WriteStop>
-    ensures { Puts (sink_view (K.written out.old) (K.faults out.old))
-        (sink_view (K.written out.new) (K.faults out.new)) (kept_text head.now log.now.parts ++ last mission.now) result }
+    ensures { Puts (K.seen out.old) (K.seen out.new) (kept_text head.now log.now.parts ++ last mission.now) result }
 {
     let Ok(line) = end_text(alloc, mission) else {
         return Err(WriteStop::Memory);
@@ -86,8 +80,7 @@ fn tell_kept<K: Sink>(
     log: &FlightLog,
     out: &mut K,
 ) -> RunStop
-    ensures { TellsKept halt (kept_text head.now log.now.parts) (sink_view (K.written out.old) (K.faults out.old))
-        (sink_view (K.written out.new) (K.faults out.new)) result }
+    ensures { TellsKept halt (kept_text head.now log.now.parts) (K.seen out.old) (K.seen out.new) result }
 {
     let Halt::Disturbed {
         cycle,
@@ -96,18 +89,13 @@ fn tell_kept<K: Sink>(
         active,
     } = halt
     else {
-        return RunStop::NoMemory;
+        return RunStop::Halted(Halt::NoMemory);
     };
     let Ok(line) = stop_text(alloc, cycle, slot, set, active) else {
-        return RunStop::NoMemory;
+        return RunStop::Halted(Halt::NoMemory);
     };
     let _ = give_kept(out, head, log, &line);
-    RunStop::Disturbed {
-        cycle,
-        slot,
-        set,
-        active,
-    }
+    RunStop::Halted(halt)
 }
 
 /// Keeps the part of a cycle, with its trace lines where `trace` says so.
@@ -143,10 +131,10 @@ fn keep_cycle<B: Bus, G: Gate, C: Calls + Sync, R: Threads + Wait + Sync, Q: Lim
 ) -> Result<(), Halt>
     requires below { world.old.done < world.old.mission.cycles }
     requires at { (k : ℕ) × (o : Option ActuatorValue) × (M : MissionValue) × (start : BusValue) ×
-        IsKept B.may k trace M o start world.old (bus_value (B.log bus.old) (B.script bus.old)) actuator.old log.old }
+        IsKept B.may k trace M o start world.old (B.seen bus.old) actuator.old log.old }
     ensures { (k : ℕ) (o : Option ActuatorValue) (M : MissionValue) (start : BusValue) →
-        IsKept B.may k trace M o start world.old (bus_value (B.log bus.old) (B.script bus.old)) actuator.old log.old →
-        KeepsTo B.may k trace M o start (suc world.old.done) world.new (bus_value (B.log bus.new) (B.script bus.new)) actuator.new log.new result }
+        IsKept B.may k trace M o start world.old (B.seen bus.old) actuator.old log.old →
+        KeepsTo B.may k trace M o start (suc world.old.done) world.new (B.seen bus.new) actuator.new log.new result }
 {
     match pass(rt, alloc, world, bus, gate, natives, limit, actuator) {
         Ok(part) => keep(alloc, world.mission(), &part, actuator, trace, log),
@@ -169,11 +157,11 @@ fn keep_cycles<B: Bus, G: Gate, C: Calls + Sync, R: Threads + Wait + Sync, Q: Li
 ) -> Result<(), Halt>
     requires world { world.old ≡ first_world world.old.mission }
     requires mission { IsMission world.old.mission }
-    requires loaded { B.script bus.old ≡ bus_rules world.old.mission }
+    requires loaded { (B.seen bus.old).script ≡ bus_rules world.old.mission }
     requires gate { actuator.old ≡ option_map first_gate world.old.mission.actuator }
     requires empty { log.old.parts ≡ [] }
-    ensures { KeepsTo B.may log.old.room trace world.old.mission world.old.mission.actuator (bus_value (B.log bus.old) (B.script bus.old))
-        world.old.mission.cycles world.new (bus_value (B.log bus.new) (B.script bus.new)) actuator.new log.new result }
+    ensures { KeepsTo B.may log.old.room trace world.old.mission world.old.mission.actuator (B.seen bus.old)
+        world.old.mission.cycles world.new (B.seen bus.new) actuator.new log.new result }
 {
     for cycle in 0..world.mission().cycles() {
         let _cycle = cycle;
@@ -201,18 +189,17 @@ pub fn run_last<B: Bus, G: Gate, C: Calls + Sync, R: Threads + Wait + Sync, K: S
 ) -> Result<(), RunStop>
     requires fresh { world.old ≡ first_world world.old.mission }
     requires mission { IsMission world.old.mission }
-    requires loaded { B.script bus.old ≡ bus_rules world.old.mission }
+    requires loaded { (B.seen bus.old).script ≡ bus_rules world.old.mission }
     requires some { 1 ≤ last }
     requires few { last ≤ 2000 }
-    ensures { RunsLast B.may last trace world.old.mission world.old.mission.actuator (bus_value (B.log bus.old) (B.script bus.old))
-        (bus_value (B.log bus.new) (B.script bus.new)) (sink_view (K.written out.old) (K.faults out.old))
-        (sink_view (K.written out.new) (K.faults out.new)) result }
+    ensures { RunsLast B.may last trace world.old.mission world.old.mission.actuator (B.seen bus.old)
+        (B.seen bus.new) (K.seen out.old) (K.seen out.new) result }
 {
     let Ok(head) = head_text(alloc, world.mission()) else {
-        return Err(RunStop::NoMemory);
+        return Err(RunStop::Halted(Halt::NoMemory));
     };
     let Ok(mut log) = FlightLog::new(alloc, last) else {
-        return Err(RunStop::NoMemory);
+        return Err(RunStop::Halted(Halt::NoMemory));
     };
     let mut actuator = first_gate(world.mission());
     match keep_cycles(

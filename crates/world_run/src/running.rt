@@ -2,18 +2,17 @@
 ghost use Rattle.std.specs.Prelude.{◌≡◌, ◌<◌, suc, Option};
 ghost use Rattle.guards_model.specs.Missions.{MissionValue, IsMission, bus_rules, ActuatorValue};
 ghost use Rattle.guards_world.specs.Worlds.{first_world};
-ghost use Rattle.guards_world.specs.WorldCycle.{BusValue};
-ghost use Rattle.ideal_run.specs.Writes.{SinkView, sink_view};
-ghost use Rattle.world_run.specs.Running.{bus_value, run_told_by, IsAt, Runs, GoesTo, TellsHalt};
+ghost use Rattle.guards_model.specs.Network.{BusValue};
+ghost use Rattle.guards_io.specs.Views.{SinkView};
+ghost use Rattle.world_run.specs.Running.{run_told_by, IsAt, Runs, GoesTo, TellsHalt};
 
 use crate::driving::{first_gate, pass};
 use crate::stop::RunStop;
 use crate::writing::{put_cycle, put_end, put_head, tell_stop};
 use ctx_lock::Gate;
-use guards_io::Sink;
+use guards_io::{Sink, WriteStop};
 use icn_bus::Bus;
 use icn_world::{Halt, World};
-use ideal_run::WriteStop;
 use native_calls::Calls;
 use output_gate::{Limit, OutputGate};
 use std::alloc::Global;
@@ -27,13 +26,13 @@ pub fn run_result(written: Result<(), WriteStop>) -> Result<(), RunStop>
     match written {
         Ok(()) => Ok(()),
         Err(WriteStop::Failed) => Err(RunStop::WriteFault),
-        Err(WriteStop::Memory) => Err(RunStop::NoMemory),
+        Err(WriteStop::Memory) => Err(RunStop::Halted(Halt::NoMemory)),
     }
 }
 
 /// Tells a halt.
 pub fn put_halt<K: Sink>(alloc: Global, halt: Halt, out: &mut K) -> RunStop
-    ensures { TellsHalt halt (sink_view (K.written out.old) (K.faults out.old)) (sink_view (K.written out.new) (K.faults out.new)) result }
+    ensures { TellsHalt halt (K.seen out.old) (K.seen out.new) result }
 {
     match halt {
         Halt::Disturbed {
@@ -42,7 +41,7 @@ pub fn put_halt<K: Sink>(alloc: Global, halt: Halt, out: &mut K) -> RunStop
             set,
             active,
         } => tell_stop(alloc, cycle, slot, set, active, out),
-        Halt::NoMemory => RunStop::NoMemory,
+        Halt::NoMemory => RunStop::Halted(Halt::NoMemory),
     }
 }
 
@@ -61,11 +60,11 @@ fn run_cycle<B: Bus, G: Gate, C: Calls + Sync, R: Threads + Wait + Sync, K: Sink
 ) -> Result<(), RunStop>
     requires below { world.old.done < world.old.mission.cycles }
     requires at { (o : Option ActuatorValue) × (M : MissionValue) × (start : BusValue) × (begun : SinkView) ×
-        IsAt B.may trace M o start begun world.old (bus_value (B.log bus.old) (B.script bus.old)) actuator.old (sink_view (K.written out.old) (K.faults out.old)) }
+        IsAt B.may trace M o start begun world.old (B.seen bus.old) actuator.old (K.seen out.old) }
     ensures { (o : Option ActuatorValue) (M : MissionValue) (start : BusValue) (begun : SinkView) →
-        IsAt B.may trace M o start begun world.old (bus_value (B.log bus.old) (B.script bus.old)) actuator.old (sink_view (K.written out.old) (K.faults out.old)) →
-        GoesTo B.may trace M o start begun (suc world.old.done) world.new (bus_value (B.log bus.new) (B.script bus.new)) actuator.new
-        (sink_view (K.written out.new) (K.faults out.new)) result }
+        IsAt B.may trace M o start begun world.old (B.seen bus.old) actuator.old (K.seen out.old) →
+        GoesTo B.may trace M o start begun (suc world.old.done) world.new (B.seen bus.new) actuator.new
+        (K.seen out.new) result }
 {
     match pass(rt, alloc, world, bus, gate, natives, limit, actuator) {
         Ok(part) => run_result(put_cycle(alloc, world.mission(), &part, actuator, trace, out)),
@@ -88,11 +87,11 @@ fn run_cycles<B: Bus, G: Gate, C: Calls + Sync, R: Threads + Wait + Sync, K: Sin
 ) -> Result<(), RunStop>
     requires fresh { world.old.done ≡ 0 }
     requires at { (o : Option ActuatorValue) × (M : MissionValue) × (start : BusValue) × (begun : SinkView) ×
-        IsAt B.may trace M o start begun world.old (bus_value (B.log bus.old) (B.script bus.old)) actuator.old (sink_view (K.written out.old) (K.faults out.old)) }
+        IsAt B.may trace M o start begun world.old (B.seen bus.old) actuator.old (K.seen out.old) }
     ensures { (o : Option ActuatorValue) (M : MissionValue) (start : BusValue) (begun : SinkView) →
-        IsAt B.may trace M o start begun world.old (bus_value (B.log bus.old) (B.script bus.old)) actuator.old (sink_view (K.written out.old) (K.faults out.old)) →
-        GoesTo B.may trace M o start begun M.cycles world.new (bus_value (B.log bus.new) (B.script bus.new)) actuator.new
-        (sink_view (K.written out.new) (K.faults out.new)) result }
+        IsAt B.may trace M o start begun world.old (B.seen bus.old) actuator.old (K.seen out.old) →
+        GoesTo B.may trace M o start begun M.cycles world.new (B.seen bus.new) actuator.new
+        (K.seen out.new) result }
 {
     for cycle in 0..world.mission().cycles() {
         let _cycle = cycle;
@@ -119,10 +118,9 @@ pub fn run<B: Bus, G: Gate, C: Calls + Sync, R: Threads + Wait + Sync, K: Sink, 
 ) -> Result<(), RunStop>
     requires fresh { world.old ≡ first_world world.old.mission }
     requires mission { IsMission world.old.mission }
-    requires loaded { B.script bus.old ≡ bus_rules world.old.mission }
-    ensures { Runs B.may trace world.old.mission world.old.mission.actuator (bus_value (B.log bus.old) (B.script bus.old))
-        (bus_value (B.log bus.new) (B.script bus.new)) (sink_view (K.written out.old) (K.faults out.old))
-        (sink_view (K.written out.new) (K.faults out.new)) result }
+    requires loaded { (B.seen bus.old).script ≡ bus_rules world.old.mission }
+    ensures { Runs B.may trace world.old.mission world.old.mission.actuator (B.seen bus.old)
+        (B.seen bus.new) (K.seen out.old) (K.seen out.new) result }
 {
     let mut actuator = first_gate(world.mission());
     run_result(put_head(alloc, world.mission(), out))?;

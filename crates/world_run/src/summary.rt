@@ -1,24 +1,20 @@
 //! Runs a mission and writes its summary alone.
-ghost use Rattle.std.specs.Prelude.{◌≡◌, ◌≤◌, ◌+◌, ◌*◌, suc, ℕ, length, IfOk};
+ghost use Rattle.std.specs.Prelude.{◌≡◌, ◌≤◌, ◌+◌, ◌*◌, suc, ℕ, IfOk};
 ghost use Rattle.guards_model.specs.Missions.{MissionValue, IsMission, bus_rules};
-ghost use Rattle.guards_model.specs.CheckTexts.{summary_part};
-ghost use Rattle.guards_model.specs.Texts.{part_text};
 ghost use Rattle.guards_world.specs.Worlds.{first_world};
-ghost use Rattle.guards_world.specs.WorldCycle.{BusValue, MayCycle};
-ghost use Rattle.ideal_run.specs.Writes.{SinkView, sink_view};
-ghost use Rattle.world_run.specs.Running.{bus_value, Puts};
-ghost use Rattle.world_run.specs.Tallying.{shown_votes, summary_of, IsTallied, Summarizes, TalliesTo};
+ghost use Rattle.guards_model.specs.Network.{BusValue};
+ghost use Rattle.guards_world.specs.WorldCycle.{MayCycle};
+ghost use Rattle.guards_io.specs.Writes.{Puts};
+ghost use Rattle.world_run.specs.Tallying.{summary_of, IsTallied, Summarizes, TalliesTo};
 
 use crate::running::{put_halt, run_result};
 use crate::stop::RunStop;
 use crate::tally::Tally;
-use crate::writing::put;
 use ctx_lock::Gate;
 use guards_base::Text;
-use guards_io::Sink;
+use guards_io::{Sink, WriteStop, put};
 use icn_bus::Bus;
 use icn_world::World;
-use ideal_run::WriteStop;
 use native_calls::Calls;
 use std::alloc::{AllocError, Global};
 use std::sync::Wait;
@@ -35,16 +31,16 @@ fn tally_cycle<B: Bus, G: Gate, C: Calls + Sync, R: Threads + Wait + Sync, K: Si
     out: &mut K,
     tally: &mut Tally,
 ) -> Result<(), RunStop>
-    requires may { MayCycle world.old (bus_value (B.log bus.old) (B.script bus.old)) }
+    requires may { MayCycle world.old (B.seen bus.old) }
     requires joins { tally.old.joins ≤ 255 * world.old.done }
     requires removals { tally.old.removals ≤ 255 * world.old.done }
     requires few { world.old.done ≤ 2000 }
     ensures few_joins { tally.new.joins ≤ tally.old.joins + 255 }
     ensures few_removals { tally.new.removals ≤ tally.old.removals + 255 }
     ensures goes_on { (number : ℕ) (M : MissionValue) (start : BusValue) →
-        IsTallied B.may M start world.old (bus_value (B.log bus.old) (B.script bus.old)) tally.old →
-        TalliesTo B.may number M start (sink_view (K.written out.old) (K.faults out.old)) (suc world.old.done) world.new
-        (bus_value (B.log bus.new) (B.script bus.new)) (sink_view (K.written out.new) (K.faults out.new)) tally.new result }
+        IsTallied B.may M start world.old (B.seen bus.old) tally.old →
+        TalliesTo B.may number M start (K.seen out.old) (suc world.old.done) world.new
+        (B.seen bus.new) (K.seen out.new) tally.new result }
 {
     match world.cycle(rt, alloc, bus, gate, natives) {
         Ok(part) => {
@@ -68,14 +64,14 @@ fn tally_cycles<B: Bus, G: Gate, C: Calls + Sync, R: Threads + Wait + Sync, K: S
 ) -> Result<(), RunStop>
     requires world { world.old ≡ first_world world.old.mission }
     requires mission { IsMission world.old.mission }
-    requires loaded { B.script bus.old ≡ bus_rules world.old.mission }
+    requires loaded { (B.seen bus.old).script ≡ bus_rules world.old.mission }
     requires joins { tally.old.joins ≡ 0 }
     requires removals { tally.old.removals ≡ 0 }
     requires last { tally.old.last ≡ None }
     ensures { (number : ℕ) →
-        TalliesTo B.may number world.old.mission (bus_value (B.log bus.old) (B.script bus.old))
-        (sink_view (K.written out.old) (K.faults out.old)) world.old.mission.cycles world.new
-        (bus_value (B.log bus.new) (B.script bus.new)) (sink_view (K.written out.new) (K.faults out.new)) tally.new result }
+        TalliesTo B.may number world.old.mission (B.seen bus.old)
+        (K.seen out.old) world.old.mission.cycles world.new
+        (B.seen bus.new) (K.seen out.new) tally.new result }
 {
     world.mission().prove_mission();
     for cycle in 0..world.mission().cycles() {
@@ -122,7 +118,7 @@ fn put_summary<K: Sink>(
     out: &mut K,
 ) -> Result<(), WriteStop>
     requires { outputs ≤ 8 }
-    ensures { Puts (sink_view (K.written out.old) (K.faults out.old)) (sink_view (K.written out.new) (K.faults out.new))
+    ensures { Puts (K.seen out.old) (K.seen out.new)
         (summary_of number outputs frames tally.now) result }
 {
     let Ok(text) = summary_text(alloc, number, outputs, frames, tally) else {
@@ -146,10 +142,9 @@ pub fn summarize<B: Bus, G: Gate, C: Calls + Sync, R: Threads + Wait + Sync, K: 
 ) -> Result<(), RunStop>
     requires fresh { world.old ≡ first_world world.old.mission }
     requires mission { IsMission world.old.mission }
-    requires loaded { B.script bus.old ≡ bus_rules world.old.mission }
-    ensures { Summarizes B.may number world.old.mission (bus_value (B.log bus.old) (B.script bus.old))
-        (bus_value (B.log bus.new) (B.script bus.new)) (sink_view (K.written out.old) (K.faults out.old))
-        (sink_view (K.written out.new) (K.faults out.new)) result }
+    requires loaded { (B.seen bus.old).script ≡ bus_rules world.old.mission }
+    ensures { Summarizes B.may number world.old.mission (B.seen bus.old)
+        (B.seen bus.new) (K.seen out.old) (K.seen out.new) result }
 {
     let mut tally = Tally::empty();
     tally_cycles(rt, alloc, world, bus, gate, natives, out, &mut tally)?;

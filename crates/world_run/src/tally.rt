@@ -1,5 +1,5 @@
 //! What is kept of the cycles of a run for its summary.
-ghost use Rattle.std.specs.Prelude.{◌≡◌, ◌≤◌, ◌+◌, ◌*◌, length, None};
+ghost use Rattle.std.specs.Prelude.{◌≡◌, ◌≤◌, ◌+◌, length, None};
 ghost use Rattle.world_run.specs.Tallying.{first_votes};
 
 use guards_base::{CycleRecord, Lines};

@@ -1,34 +1,22 @@
 //! Writes the text of a run, part by part.
 ghost use Rattle.std.specs.Prelude.{◌≡◌, ◌≤◌, ◌++◌, IfOk, OnOk, Some, length};
 ghost use Rattle.output_gate.specs.Gates.{GateValue};
+ghost use Rattle.guards_io.specs.Writes.{Puts};
 ghost use Rattle.guards_runs.specs.IdealReport.{head, last};
-ghost use Rattle.ideal_run.specs.Writes.{sink_view};
-ghost use Rattle.world_run.specs.Running.{Puts, WritesLine, TellsStop, bare_text, cycle_text, stop_text, stop_value, words_line};
+ghost use Rattle.world_run.specs.Running.{WritesLine, TellsStop, bare_text, cycle_text, stop_text, stop_value, words_line};
 
 use crate::stop::RunStop;
 use guards_base::{ChanSet, CycleRecord, Text};
-use guards_io::Sink;
+use guards_io::{Sink, WriteStop, put, write_all};
 use guards_model::Slot;
-use ideal_run::{WriteStop, write_all};
+use icn_world::Halt;
 use mission_type::Mission;
 use output_gate::OutputGate;
 use std::alloc::{AllocError, Global};
 
-/// Writes one part. A part without bytes is not given.
-pub fn put<K: Sink>(out: &mut K, part: &str) -> Result<(), WriteStop>
-    ensures { Puts (sink_view (K.written out.old) (K.faults out.old))
-        (sink_view (K.written out.new) (K.faults out.new)) part.now result }
-{
-    match write_all(out, part.as_bytes()) {
-        Ok(()) => Ok(()),
-        Err(_) => Err(WriteStop::Failed),
-    }
-}
-
 /// Writes a line that ends a call, as far as the sink takes it.
 pub fn put_line<K: Sink>(out: &mut K, line: &str)
-    ensures { WritesLine (sink_view (K.written out.old) (K.faults out.old))
-        (sink_view (K.written out.new) (K.faults out.new)) line.now }
+    ensures { WritesLine (K.seen out.old) (K.seen out.new) line.now }
 {
     let _ = write_all(out, line.as_bytes());
 }
@@ -44,9 +32,7 @@ pub(crate) fn head_text(alloc: Global, mission: &Mission) -> Result<Text, AllocE
 
 /// Writes the head line.
 pub fn put_head<K: Sink>(alloc: Global, mission: &Mission, out: &mut K) -> Result<(), WriteStop>
-    ensures { Puts (sink_view (K.written out.old) (K.faults out.old))
-        (sink_view (K.written out.new) (K.faults out.new))
-        (head mission.now) result }
+    ensures { Puts (K.seen out.old) (K.seen out.new) (head mission.now) result }
 {
     let Ok(text) = head_text(alloc, mission) else {
         return Err(WriteStop::Memory);
@@ -118,8 +104,7 @@ pub fn put_cycle<K: Sink>(
     out: &mut K,
 ) -> Result<(), WriteStop>
     requires { (g : GateValue) → actuator.now ≡ Some g → length g.words ≡ length mission.now.outputs }
-    ensures { Puts (sink_view (K.written out.old) (K.faults out.old))
-        (sink_view (K.written out.new) (K.faults out.new)) (cycle_text trace mission.now actuator.now part.now) result }
+    ensures { Puts (K.seen out.old) (K.seen out.new) (cycle_text trace mission.now actuator.now part.now) result }
 {
     let Ok(text) = cycle_text(alloc, mission, part, actuator, trace) else {
         return Err(WriteStop::Memory);
@@ -138,8 +123,7 @@ pub(crate) fn end_text(alloc: Global, mission: &Mission) -> Result<Text, AllocEr
 
 /// Writes the last line of a run that did not stop.
 pub fn put_end<K: Sink>(alloc: Global, mission: &Mission, out: &mut K) -> Result<(), WriteStop>
-    ensures { Puts (sink_view (K.written out.old) (K.faults out.old))
-        (sink_view (K.written out.new) (K.faults out.new)) (last mission.now) result }
+    ensures { Puts (K.seen out.old) (K.seen out.new) (last mission.now) result }
 {
     let Ok(text) = end_text(alloc, mission) else {
         return Err(WriteStop::Memory);
@@ -171,17 +155,16 @@ pub fn tell_stop<K: Sink>(
     active: ChanSet,
     out: &mut K,
 ) -> RunStop
-    ensures { TellsStop (stop_value cycle slot set active) (sink_view (K.written out.old) (K.faults out.old))
-        (sink_view (K.written out.new) (K.faults out.new)) result }
+    ensures { TellsStop (stop_value cycle slot set active) (K.seen out.old) (K.seen out.new) result }
 {
     let Ok(text) = stop_text(alloc, cycle, slot, set, active) else {
-        return RunStop::NoMemory;
+        return RunStop::Halted(Halt::NoMemory);
     };
     put_line(out, text.as_str());
-    RunStop::Disturbed {
+    RunStop::Halted(Halt::Disturbed {
         cycle,
         slot,
         set,
         active,
-    }
+    })
 }

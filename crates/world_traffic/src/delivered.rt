@@ -23,6 +23,7 @@ impl Model for Delivered {
 }
 
 impl Delivered {
+    /// What arrived, as the nodes see it.
     pub fn of(arrived: slot_traffic::Arrived) -> Delivered
         ensures { result ≡ arrived }
     {

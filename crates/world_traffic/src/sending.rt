@@ -69,10 +69,10 @@ fn send_frame<B: Bus>(
     to: Receivers,
 ) -> Result<(), AllocError>
     requires { IfSome frame (λ frame. IsTrue (in_range frame)) }
-    ensures script { B.script bus.new ≡ B.script bus.old }
-    ensures sent { OnOk result (SendsSlot B.may (B.script bus.old) (B.log bus.old) (B.log bus.new)
+    ensures script { (B.seen bus.new).script ≡ (B.seen bus.old).script }
+    ensures sent { OnOk result (SendsSlot B.may (B.seen bus.old).script (B.seen bus.old).log (B.seen bus.new).log
         (sends_by traffic.old.cycle traffic.old.slot (receiver_numbers to) frame) traffic.old traffic.new) }
-    ensures some { OnErr result (SendsFirstOfSlot B.may (B.script bus.old) (B.log bus.old) (B.log bus.new)
+    ensures some { OnErr result (SendsFirstOfSlot B.may (B.seen bus.old).script (B.seen bus.old).log (B.seen bus.new).log
         (sends_by traffic.old.cycle traffic.old.slot (receiver_numbers to) frame) traffic.old traffic.new) }
 {
     match frame {
@@ -95,14 +95,14 @@ fn send_owed<B: Bus>(
     to: Receivers,
 ) -> Result<(), AllocError>
     requires { (received : AllReceived) × StandsForReceived received node.now × MaySend mission.now traffic.old.cycle traffic.old.slot received node.now }
-    ensures script { B.script bus.new ≡ B.script bus.old }
+    ensures script { (B.seen bus.new).script ≡ (B.seen bus.old).script }
     ensures sent { (received : AllReceived) → StandsForReceived received node.now →
-        OnOk result (SendsSlot B.may (B.script bus.old) (B.log bus.old) (B.log bus.new)
+        OnOk result (SendsSlot B.may (B.seen bus.old).script (B.seen bus.old).log (B.seen bus.new).log
         (sends_by traffic.old.cycle traffic.old.slot (receiver_numbers to)
         (framed node.now traffic.old.cycle (body_of mission.now (received node.now.channel) traffic.old.slot target node.now.state)))
         traffic.old traffic.new) }
     ensures some { (received : AllReceived) → StandsForReceived received node.now →
-        OnErr result (SendsFirstOfSlot B.may (B.script bus.old) (B.log bus.old) (B.log bus.new)
+        OnErr result (SendsFirstOfSlot B.may (B.seen bus.old).script (B.seen bus.old).log (B.seen bus.new).log
         (sends_by traffic.old.cycle traffic.old.slot (receiver_numbers to)
         (framed node.now traffic.old.cycle (body_of mission.now (received node.now.channel) traffic.old.slot target node.now.state)))
         traffic.old traffic.new) }
@@ -140,13 +140,13 @@ fn send_targets<B: Bus>(
     channels: &[Chan],
 ) -> Result<(), AllocError>
     requires { (received : AllReceived) × StandsForReceived received node.now × MaySend mission.now traffic.old.cycle traffic.old.slot received node.now }
-    ensures script { B.script bus.new ≡ B.script bus.old }
+    ensures script { (B.seen bus.new).script ≡ (B.seen bus.old).script }
     ensures sent { (received : AllReceived) → StandsForReceived received node.now →
-        OnOk result (SendsSlot B.may (B.script bus.old) (B.log bus.old) (B.log bus.new)
+        OnOk result (SendsSlot B.may (B.seen bus.old).script (B.seen bus.old).log (B.seen bus.new).log
         (sends_of mission.now traffic.old.cycle traffic.old.slot (filter (has targets) channels.now) (received node.now.channel) node.now)
         traffic.old traffic.new) }
     ensures some { (received : AllReceived) → StandsForReceived received node.now →
-        OnErr result (SendsFirstOfSlot B.may (B.script bus.old) (B.log bus.old) (B.log bus.new)
+        OnErr result (SendsFirstOfSlot B.may (B.seen bus.old).script (B.seen bus.old).log (B.seen bus.new).log
         (sends_of mission.now traffic.old.cycle traffic.old.slot (filter (has targets) channels.now) (received node.now.channel) node.now)
         traffic.old traffic.new) }
 {
@@ -180,13 +180,13 @@ fn send_node<B: Bus>(
     to: Receivers,
 ) -> Result<(), AllocError>
     requires { (received : AllReceived) × StandsForReceived received node.now × MaySend mission.now traffic.old.cycle traffic.old.slot received node.now }
-    ensures script { B.script bus.new ≡ B.script bus.old }
+    ensures script { (B.seen bus.new).script ≡ (B.seen bus.old).script }
     ensures sent { (received : AllReceived) → StandsForReceived received node.now →
-        OnOk result (SendsSlot B.may (B.script bus.old) (B.log bus.old) (B.log bus.new)
+        OnOk result (SendsSlot B.may (B.seen bus.old).script (B.seen bus.old).log (B.seen bus.new).log
         (sends_of mission.now traffic.old.cycle traffic.old.slot (receiver_numbers to) (received node.now.channel) node.now)
         traffic.old traffic.new) }
     ensures some { (received : AllReceived) → StandsForReceived received node.now →
-        OnErr result (SendsFirstOfSlot B.may (B.script bus.old) (B.log bus.old) (B.log bus.new)
+        OnErr result (SendsFirstOfSlot B.may (B.seen bus.old).script (B.seen bus.old).log (B.seen bus.new).log
         (sends_of mission.now traffic.old.cycle traffic.old.slot (receiver_numbers to) (received node.now.channel) node.now)
         traffic.old traffic.new) }
 {
@@ -228,12 +228,12 @@ fn send_each<B: Bus>(
     to: &Receivers,
 ) -> Result<(), AllocError>
     requires { (received : AllReceived) × All (StandsForReceived received) nodes.now × All (MaySend mission.now traffic.old.cycle traffic.old.slot received) nodes.now }
-    ensures script { B.script bus.new ≡ B.script bus.old }
+    ensures script { (B.seen bus.new).script ≡ (B.seen bus.old).script }
     ensures sent { (received : AllReceived) → All (StandsForReceived received) nodes.now →
-        OnOk result (SendsSlot B.may (B.script bus.old) (B.log bus.old) (B.log bus.new)
+        OnOk result (SendsSlot B.may (B.seen bus.old).script (B.seen bus.old).log (B.seen bus.new).log
         (all_sends mission.now traffic.old.cycle traffic.old.slot (receiver_numbers to.now) received nodes.now) traffic.old traffic.new) }
     ensures some { (received : AllReceived) → All (StandsForReceived received) nodes.now →
-        OnErr result (SendsFirstOfSlot B.may (B.script bus.old) (B.log bus.old) (B.log bus.new)
+        OnErr result (SendsFirstOfSlot B.may (B.seen bus.old).script (B.seen bus.old).log (B.seen bus.new).log
         (all_sends mission.now traffic.old.cycle traffic.old.slot (receiver_numbers to.now) received nodes.now) traffic.old traffic.new) }
 {
     let Some((node, rest)) = nodes.split_first() else {
@@ -260,12 +260,12 @@ pub fn send_slot<B: Bus>(
     to: Receivers,
 ) -> Result<(), AllocError>
     requires { (received : AllReceived) × All (StandsForReceived received) nodes.now × All (MaySend mission.now traffic.old.cycle traffic.old.slot received) nodes.now }
-    ensures script { B.script bus.new ≡ B.script bus.old }
+    ensures script { (B.seen bus.new).script ≡ (B.seen bus.old).script }
     ensures sent { (received : AllReceived) → All (StandsForReceived received) nodes.now →
-        OnOk result (SendsSlot B.may (B.script bus.old) (B.log bus.old) (B.log bus.new)
+        OnOk result (SendsSlot B.may (B.seen bus.old).script (B.seen bus.old).log (B.seen bus.new).log
         (all_sends mission.now traffic.old.cycle traffic.old.slot (receiver_numbers to) received nodes.now) traffic.old traffic.new) }
     ensures some { (received : AllReceived) → All (StandsForReceived received) nodes.now →
-        OnErr result (SendsFirstOfSlot B.may (B.script bus.old) (B.log bus.old) (B.log bus.new)
+        OnErr result (SendsFirstOfSlot B.may (B.seen bus.old).script (B.seen bus.old).log (B.seen bus.new).log
         (all_sends mission.now traffic.old.cycle traffic.old.slot (receiver_numbers to) received nodes.now) traffic.old traffic.new) }
 {
     match send_each(alloc, traffic, bus, nodes.as_slice(), mission, &to) {

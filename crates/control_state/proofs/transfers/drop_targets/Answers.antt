@@ -1,4 +1,4 @@
-use Rattle.std.proofs.Common.{◌≡◌, ℕ, Bool, true, false, not, ◌&&◌, ◌||◌, List, Option, Some, None, refl, sym, ap, ◌∙◌}
+use Rattle.std.proofs.Common.{◌≡◌, ℕ, Bool, true, false, not, ◌&&◌, Option, Some, refl, sym, ap, ◌∙◌}
 use Rattle.std.specs.Prelude.{filter}
 use Rattle.guards_model.specs.Channels.{ChannelSet, has, without}
 use Rattle.guards_model.specs.Diagnosis.{Agreed}
@@ -27,5 +27,5 @@ dropped active agreed cycle running s targets kept start r was is k e =
 
 pub returns-in-Some : goal.returns-in-Some
 returns-in-Some c =
-    dropped c.args.active c.args.agreed.now c.args.cycle c.args.running.now c.in-Some.transfer c.transfer.inside.targets c.stayers.result c.transfer.inside.start c.without.result
-    c.in-Some.is (ap (λ (u : SweepingValue). u.transfer) (sym c.transfer.view_is)) c.stayers.ensures c.without.ensures
+    dropped c.args.active c.args.agreed.now c.args.cycle c.args.running.now c.in-Some.transfer c.transfer.inside.targets c.stayers-kept.result c.transfer.inside.start c.difference.result
+    c.in-Some.is (ap (λ (u : SweepingValue). u.transfer) (sym c.transfer.view_is)) c.stayers-kept.ensures c.difference.ensures

@@ -1,4 +1,3 @@
-use Rattle.std.proofs.Common.{◌≡◌, sym, ◌∙◌, refl, subst, Option, Some}
 use Rattle.fault_script.proofs.EntryFaults.{entry_kept, entries_end, entry_breaks}
 use Rattle.fault_script.proofs.script.broken_entry.Goals as goal
 

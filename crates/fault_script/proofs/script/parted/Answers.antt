@@ -1,4 +1,4 @@
-use Rattle.std.proofs.Common.{◌≡◌, ◌∙◌, ap, sym, ◌++◌, [], ◌∷◌, filter_map, filter, not, map}
+use Rattle.std.proofs.Common.{◌∙◌, ap, sym, ◌++◌, [], ◌∷◌, filter_map, filter, not}
 use Rattle.guards_model.specs.Faults.{FaultValue}
 use Rattle.guards_model.specs.Missions.{bus_rule}
 use Rattle.fault_script.specs.Entries.{fault_value, is_for_bus}

@@ -6,8 +6,8 @@ use Rattle.guards_io.proofs.reading.read_all.Given as goal
 abbrev pub invariant-loop-bytes : goal.invariant-loop-bytes
 invariant-loop-bytes g l = record {
   limit : length l.bytes.items ≤ l.limit + 1;
-  taken : Consumes (g.S.Source.left l.initial.src) (g.S.Source.left l.src) l.bytes.items;
-  kept : g.S.Source.faults l.src ≡ g.S.Source.faults l.initial.src;
+  taken : Consumes (g.S.Source.seen l.initial.src).left (g.S.Source.seen l.src).left l.bytes.items;
+  kept : (g.S.Source.seen l.src).faults ≡ (g.S.Source.seen l.initial.src).faults;
 }
 
 abbrev pub decreases-loop-bytes : goal.decreases-loop-bytes

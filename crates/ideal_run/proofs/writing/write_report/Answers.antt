@@ -1,13 +1,13 @@
 use Rattle.std.proofs.lemmas.Result.{err_from_is_err_and}
-use Rattle.ideal_run.specs.Writes.{SinkView}
+use Rattle.guards_io.specs.Views.{SinkView}
 use Rattle.ideal_run.proofs.WritesLemmas.{report_head, report_cycles, report_last}
 use Rattle.ideal_run.proofs.writing.write_report.Goals as goal
 
 pub returns-in_err-put_head : goal.returns-in_err-put_head
 returns-in_err-put_head g c =
     let p = err_from_is_err_and c.from_residual.result c.from_residual.ensures.1 in
-    let before : SinkView = record { written = g.K.Sink.written c.args.out.now; faults = g.K.Sink.faults c.args.out.now } in
-    let after : SinkView = record { written = g.K.Sink.written c.put_head.new.out; faults = g.K.Sink.faults c.put_head.new.out } in
+    let before : SinkView = g.K.Sink.seen c.args.out.now in
+    let after : SinkView = g.K.Sink.seen c.put_head.new.out in
     rw (p.1, p.2) (report_head c.args.mission.now before after _ c.in_err-put_head.ensures)
 
 pub returns-in_err-put_run : goal.returns-in_err-put_run

@@ -2,7 +2,8 @@ use Rattle.std.proofs.Common.{◌≤◌, ◌<◌, ℕ, List, length, Ok, ap, sub
 use Rattle.std.proofs.lemmas.List.{take_all}
 use Rattle.std.proofs.lemmas.Result.{err_from_is_err_and}
 use Rattle.check_text.specs.Check.{row_text, texts_from}
-use Rattle.ideal_run.specs.Writes.{SinkView, Writes}
+use Rattle.guards_io.specs.Writes.{Writes}
+use Rattle.guards_io.specs.Views.{SinkView}
 use Rattle.mission_run.proofs.RowTexts.{rows_more, rows_stop}
 use Rattle.mission_run.proofs.check.put_rows.Goals as goal
 
@@ -22,6 +23,6 @@ pub returns : goal.returns
 returns g c =
     let rows = c.args.table.now.rows in
     let all : length rows ≤ c.loop-row.row = omega (arith, c.loop-row-test.false, c.rows-row-end.ensures.count) in
-    let before : SinkView = record { written = g.K.Sink.written c.args.out.now; faults = g.K.Sink.faults c.args.out.now } in
-    let after : SinkView = record { written = g.K.Sink.written c.loop-row.out; faults = g.K.Sink.faults c.loop-row.out } in
+    let before : SinkView = g.K.Sink.seen c.args.out.now in
+    let after : SinkView = g.K.Sink.seen c.loop-row.out in
     subst (λ (t : List ℕ). Writes before after t (Ok tt)) (ap (texts_from row_text 0) (take_all c.loop-row.row rows all)) (c.loop-row.invariant.written, c.loop-row.invariant.kept)

@@ -3,4 +3,4 @@ use Rattle.told_cycles.proofs.SetLemmas.{none_left}
 use Rattle.told_cycles.proofs.sets.within.Goals as goal
 
 pub returns : goal.returns
-returns c = ap (λ n. n == 0) (c.count.ensures ∙ ap length c.minus.ensures) ∙ none_left c.args.a c.args.b
+returns c = ap (λ n. n == 0) (c.count.ensures.value ∙ ap length c.difference.ensures) ∙ none_left c.args.a c.args.b

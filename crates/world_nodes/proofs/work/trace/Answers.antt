@@ -1,4 +1,4 @@
-use Rattle.std.proofs.Common.{◌≡◌, ◌∙◌}
+use Rattle.std.proofs.Common.{◌∙◌}
 use Rattle.sweep_round.specs.Trails.{trail_steps}
 use Rattle.world_nodes.proofs.Traces.{of_two}
 use Rattle.world_nodes.proofs.work.trace.Goals as goal

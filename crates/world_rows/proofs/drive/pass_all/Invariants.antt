@@ -5,7 +5,7 @@ use Rattle.world_rows.proofs.drive.pass_all.Given as goal
 abbrev pub invariant-loop-cycle : goal.invariant-loop-cycle
 invariant-loop-cycle g l =
     record {
-      running : IsRunning g.B.Bus.may l.world (record { log = g.B.Bus.log l.bus; script = g.B.Bus.script l.bus });
+      running : IsRunning g.B.Bus.may l.world (g.B.Bus.seen l.bus);
       done : l.world.done ≡ l.cycle;
       same : l.world.mission ≡ l.fn.world.mission;
     }

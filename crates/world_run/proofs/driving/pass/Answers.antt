@@ -8,13 +8,12 @@ use Rattle.output_gate.specs.Exchanging.{MayExchange}
 use Rattle.output_gate.specs.Gates.{GateValue}
 use Rattle.run_laws.specs.Driving.{Drives, Exchanged}
 use Rattle.run_laws.proofs.Driving.{driven_finished_mission, driven_may, driven_may_cycle, drives_finished, drives_halted}
-use Rattle.world_run.specs.Running.{bus_value}
 use Rattle.world_run.proofs.driving.pass.Goals as goal
 
 pub cycle-requires : goal.cycle-requires
 cycle-requires g c =
     let (o, M, start, L, histories, at) = c.requires.driven in
-    let bus = bus_value (g.B.Bus.log c.args.bus.now) (g.B.Bus.script c.args.bus.now) in
+    let bus = g.B.Bus.seen c.args.bus.now in
     let may = driven_may_cycle g.B.Bus.may M start c.args.world.now bus c.args.actuator.now L histories o at c.requires.below in
     search (rules, may)
 
@@ -23,8 +22,8 @@ exchanged-requires g c =
     let (o, M, start, L, histories, at) = c.requires.driven in
     let w = c.args.world.now in
     let new = c.cycle.new.self in
-    let bus = bus_value (g.B.Bus.log c.args.bus.now) (g.B.Bus.script c.args.bus.now) in
-    let mid = bus_value (g.B.Bus.log c.cycle.new.bus) (g.B.Bus.script c.cycle.new.bus) in
+    let bus = g.B.Bus.seen c.args.bus.now in
+    let mid = g.B.Bus.seen c.cycle.new.bus in
     let cycled : PassesCycle g.B.Bus.may w.spent w bus (Ok c.in-Ok.part) new mid = subst (λ r. PassesCycle g.B.Bus.may w.spent w bus (with_halt_value r) new mid) c.in-Ok.is c.cycle.ensures.passes in
     let mission : new.mission ≡ M = driven_finished_mission g.B.Bus.may M start w bus c.args.actuator.now L histories new mid c.requires.below c.in-Ok.part cycled o at in
     let may : (gate : GateValue) → c.args.actuator.now ≡ Some gate → (s : SettledValue) × (new.settled ≡ Some s) × MayExchange new.mission.rules.version (length gate.words) c.in-Ok.part s =
@@ -38,9 +37,9 @@ returns-in-Ok g c =
     λ o M start L histories at.
     let w = c.args.world.now in
     let new = c.cycle.new.self in
-    let bus = bus_value (g.B.Bus.log c.args.bus.now) (g.B.Bus.script c.args.bus.now) in
-    let mid = bus_value (g.B.Bus.log c.cycle.new.bus) (g.B.Bus.script c.cycle.new.bus) in
-    let after = bus_value (g.B.Bus.log c.exchanged.new.bus) (g.B.Bus.script c.exchanged.new.bus) in
+    let bus = g.B.Bus.seen c.args.bus.now in
+    let mid = g.B.Bus.seen c.cycle.new.bus in
+    let after = g.B.Bus.seen c.exchanged.new.bus in
     let cycled : PassesCycle g.B.Bus.may w.spent w bus (Ok c.in-Ok.part) new mid = subst (λ r. PassesCycle g.B.Bus.may w.spent w bus (with_halt_value r) new mid) c.in-Ok.is c.cycle.ensures.passes in
     let mission : new.mission ≡ M = driven_finished_mission g.B.Bus.may M start w bus c.args.actuator.now L histories new mid c.requires.below c.in-Ok.part cycled o at in
     let (ended, exchanged, answer) = c.exchanged.ensures in
@@ -54,8 +53,8 @@ returns-in-Err g c =
     λ o M start L histories at.
     let w = c.args.world.now in
     let new = c.cycle.new.self in
-    let bus = bus_value (g.B.Bus.log c.args.bus.now) (g.B.Bus.script c.args.bus.now) in
-    let after = bus_value (g.B.Bus.log c.cycle.new.bus) (g.B.Bus.script c.cycle.new.bus) in
+    let bus = g.B.Bus.seen c.args.bus.now in
+    let after = g.B.Bus.seen c.cycle.new.bus in
     let cycled : PassesCycle g.B.Bus.may w.spent w bus (Err (halt_value c.in-Err.halt)) new after = subst (λ r. PassesCycle g.B.Bus.may w.spent w bus (with_halt_value r) new after) c.in-Err.is c.cycle.ensures.passes in
     let no_further : CarriesUpToStop w bus (Err (halt_value c.in-Err.halt)) after = subst (λ r. CarriesUpToStop w bus (with_halt_value r) after) c.in-Err.is c.cycle.ensures.up_to_stop in
     drives_halted g.B.Bus.may M start w bus c.args.actuator.now L histories new after c.requires.below o at (halt_value c.in-Err.halt) cycled no_further

@@ -1,5 +1,4 @@
 use Rattle.std.proofs.Common.{◌≡◌}
-use Rattle.world_run.specs.Running.{bus_value}
 use Rattle.world_run.specs.Keeping.{IsKept}
 use Rattle.world_run.proofs.keeping.keep_cycles.Given as goal
 
@@ -8,5 +7,5 @@ abbrev pub invariant-loop-cycle : goal.invariant-loop-cycle
 invariant-loop-cycle g l = record {
   done : l.world.done ≡ l.cycle;
   kept : l.world.mission ≡ l.fn.world.mission;
-  at : IsKept g.B.Bus.may l.fn.log.room l.trace l.fn.world.mission l.fn.world.mission.actuator (bus_value (g.B.Bus.log l.fn.bus) (g.B.Bus.script l.fn.bus)) l.world (bus_value (g.B.Bus.log l.bus) (g.B.Bus.script l.bus)) l.actuator l.log;
+  at : IsKept g.B.Bus.may l.fn.log.room l.trace l.fn.world.mission l.fn.world.mission.actuator (g.B.Bus.seen l.fn.bus) l.world (g.B.Bus.seen l.bus) l.actuator l.log;
 }

@@ -1,8 +1,8 @@
 use Rattle.std.proofs.Common.{◌≡◌, ◌++◌, ◌∙◌, ap, sym, subst}
 use Rattle.flight_log.specs.Kept.{Kept}
 use Rattle.guards_runs.specs.IdealReport.{head, last}
-use Rattle.ideal_run.specs.Writes.{SinkView, sink_view}
-use Rattle.world_run.specs.Running.{bus_value, Puts}
+use Rattle.guards_io.specs.Views.{SinkView}
+use Rattle.guards_io.specs.Writes.{Puts}
 use Rattle.world_run.specs.Keeping.{KeepsTo, RunsLast, TellsKept, kept_text}
 use Rattle.std.specs.Prelude.{option_map}
 use Rattle.run_laws.specs.Driving.{first_gate}
@@ -12,15 +12,15 @@ use Rattle.world_run.proofs.keeping.run_last.Goals as goal
 
 pub returns-in_default : goal.returns-in_default
 returns-in_default g c =
-    let start = bus_value (g.B.Bus.log c.args.bus.now) (g.B.Bus.script c.args.bus.now) in
-    let out = sink_view (g.K.Sink.written c.args.out.now) (g.K.Sink.faults c.args.out.now) in
+    let start = g.B.Bus.seen c.args.bus.now in
+    let out = g.K.Sink.seen c.args.out.now in
     let M = c.args.world.now.mission in
     not_begun g.B.Bus.may c.args.last c.args.trace M M.actuator start out (option_map first_gate M.actuator) (mission_begins g.B.Bus.may M start c.requires.mission c.requires.loaded)
 
 pub returns-in_default-new : goal.returns-in_default-new
 returns-in_default-new g c =
-    let start = bus_value (g.B.Bus.log c.args.bus.now) (g.B.Bus.script c.args.bus.now) in
-    let out = sink_view (g.K.Sink.written c.args.out.now) (g.K.Sink.faults c.args.out.now) in
+    let start = g.B.Bus.seen c.args.bus.now in
+    let out = g.K.Sink.seen c.args.out.now in
     let M = c.args.world.now.mission in
     not_begun g.B.Bus.may c.args.last c.args.trace M M.actuator start out (option_map first_gate M.actuator) (mission_begins g.B.Bus.may M start c.requires.mission c.requires.loaded)
 
@@ -30,10 +30,10 @@ returns-in-Ok-keep_cycles g c =
     let w = c.keep_cycles.new.world in
     let log = c.keep_cycles.new.log in
     let gate = c.keep_cycles.new.actuator in
-    let start = bus_value (g.B.Bus.log c.args.bus.now) (g.B.Bus.script c.args.bus.now) in
-    let bus = bus_value (g.B.Bus.log c.keep_cycles.new.bus) (g.B.Bus.script c.keep_cycles.new.bus) in
-    let out : SinkView = sink_view (g.K.Sink.written c.args.out.now) (g.K.Sink.faults c.args.out.now) in
-    let out' : SinkView = sink_view (g.K.Sink.written c.put_kept.new.out) (g.K.Sink.faults c.put_kept.new.out) in
+    let start = g.B.Bus.seen c.args.bus.now in
+    let bus = g.B.Bus.seen c.keep_cycles.new.bus in
+    let out : SinkView = g.K.Sink.seen c.args.out.now in
+    let out' : SinkView = g.K.Sink.seen c.put_kept.new.out in
     let at = subst (λ r. KeepsTo g.B.Bus.may c.args.last c.args.trace M M.actuator start M.cycles w bus gate log r) c.in-Ok-keep_cycles.is
     (subst (λ k. KeepsTo g.B.Bus.may k c.args.trace M M.actuator start M.cycles w bus gate log c.keep_cycles.result) (ap (λ (l : Kept). l.room) c.in-Ok-new.ensures) c.keep_cycles.ensures) in
     let first : c.in-Ok.head ≡ head M = c.in-Ok.ensures ∙ ap head c.mission.ensures in
@@ -49,10 +49,10 @@ returns g c =
     let w = c.keep_cycles.new.world in
     let log = c.keep_cycles.new.log in
     let gate = c.keep_cycles.new.actuator in
-    let start = bus_value (g.B.Bus.log c.args.bus.now) (g.B.Bus.script c.args.bus.now) in
-    let bus = bus_value (g.B.Bus.log c.keep_cycles.new.bus) (g.B.Bus.script c.keep_cycles.new.bus) in
-    let out : SinkView = sink_view (g.K.Sink.written c.args.out.now) (g.K.Sink.faults c.args.out.now) in
-    let out' : SinkView = sink_view (g.K.Sink.written c.tell_kept.new.out) (g.K.Sink.faults c.tell_kept.new.out) in
+    let start = g.B.Bus.seen c.args.bus.now in
+    let bus = g.B.Bus.seen c.keep_cycles.new.bus in
+    let out : SinkView = g.K.Sink.seen c.args.out.now in
+    let out' : SinkView = g.K.Sink.seen c.tell_kept.new.out in
     let at = subst (λ r. KeepsTo g.B.Bus.may c.args.last c.args.trace M M.actuator start M.cycles w bus gate log r) c.in-Err.is
     (subst (λ k. KeepsTo g.B.Bus.may k c.args.trace M M.actuator start M.cycles w bus gate log c.keep_cycles.result) (ap (λ (l : Kept). l.room) c.in-Ok-new.ensures) c.keep_cycles.ensures) in
     let first : c.in-Ok.head ≡ head M = c.in-Ok.ensures ∙ ap head c.mission.ensures in

@@ -1,13 +1,13 @@
-use Rattle.std.proofs.Common.{◌≡◌, ap, sym, subst, ◌∙◌}
+use Rattle.std.proofs.Common.{ap, sym, subst, ◌∙◌}
 use Rattle.std.specs.Prelude.{option_map}
 use Rattle.std.proofs.lemmas.Result.{err_from_is_err_and}
 use Rattle.guards_world.specs.Worlds.{WorldValue, first_world}
 use Rattle.guards_runs.specs.IdealReport.{head, last}
-use Rattle.ideal_run.specs.Writes.{sink_view}
 use Rattle.guards_model.specs.Missions.{MissionValue}
 use Rattle.run_laws.specs.Driving.{first_gate}
 use Rattle.run_laws.proofs.Driving.{mission_begins}
-use Rattle.world_run.specs.Running.{bus_value, GoesTo, IsAt, Puts, Runs}
+use Rattle.guards_io.specs.Writes.{Puts}
+use Rattle.world_run.specs.Running.{GoesTo, IsAt, Runs}
 use Rattle.world_run.proofs.RunSteps.{at_mission, head_done, end_done}
 use Rattle.world_run.proofs.running.run.Goals as goal
 
@@ -15,9 +15,9 @@ pub returns-in_err-run_result : goal.returns-in_err-run_result
 returns-in_err-run_result g c =
     let p = err_from_is_err_and c.from_residual.result c.from_residual.ensures.1 in
     let M = c.args.world.now.mission in
-    let bus = bus_value (g.B.Bus.log c.args.bus.now) (g.B.Bus.script c.args.bus.now) in
-    let out = sink_view (g.K.Sink.written c.args.out.now) (g.K.Sink.faults c.args.out.now) in
-    let out' = sink_view (g.K.Sink.written c.put_head.new.out) (g.K.Sink.faults c.put_head.new.out) in
+    let bus = g.B.Bus.seen c.args.bus.now in
+    let out = g.K.Sink.seen c.args.out.now in
+    let out' = g.K.Sink.seen c.put_head.new.out in
     let wrote : Puts out out' (head M) c.put_head.result = subst (λ m. Puts out out' (head m) c.put_head.result) c.mission-2.ensures c.put_head.ensures in
     let o = M.actuator in
     let first = mission_begins g.B.Bus.may M bus c.requires.mission c.requires.loaded in
@@ -27,9 +27,9 @@ returns-in_err-run_result g c =
 pub run_cycles-requires-clause-at : goal.run_cycles-requires-clause-at
 run_cycles-requires-clause-at g c κs within =
     let M = c.args.world.now.mission in
-    let bus = bus_value (g.B.Bus.log c.args.bus.now) (g.B.Bus.script c.args.bus.now) in
-    let out = sink_view (g.K.Sink.written c.args.out.now) (g.K.Sink.faults c.args.out.now) in
-    let out' = sink_view (g.K.Sink.written c.put_head.new.out) (g.K.Sink.faults c.put_head.new.out) in
+    let bus = g.B.Bus.seen c.args.bus.now in
+    let out = g.K.Sink.seen c.args.out.now in
+    let out' = g.K.Sink.seen c.put_head.new.out in
     let wrote : Puts out out' (head M) c.put_head.result = subst (λ m. Puts out out' (head m) c.put_head.result) c.mission-2.ensures c.put_head.ensures in
     let o = M.actuator in
     let first = mission_begins g.B.Bus.may M bus c.requires.mission c.requires.loaded in
@@ -47,9 +47,9 @@ pub returns-in_err-run_cycles : goal.returns-in_err-run_cycles
 returns-in_err-run_cycles g c =
     let p = err_from_is_err_and c.from_residual-in_err-run_cycles.result c.from_residual-in_err-run_cycles.ensures.1 in
     let M = c.args.world.now.mission in
-    let bus = bus_value (g.B.Bus.log c.args.bus.now) (g.B.Bus.script c.args.bus.now) in
-    let out = sink_view (g.K.Sink.written c.args.out.now) (g.K.Sink.faults c.args.out.now) in
-    let out' = sink_view (g.K.Sink.written c.put_head.new.out) (g.K.Sink.faults c.put_head.new.out) in
+    let bus = g.B.Bus.seen c.args.bus.now in
+    let out = g.K.Sink.seen c.args.out.now in
+    let out' = g.K.Sink.seen c.put_head.new.out in
     let wrote : Puts out out' (head M) c.put_head.result = subst (λ m. Puts out out' (head m) c.put_head.result) c.mission-2.ensures c.put_head.ensures in
     let o = M.actuator in
     let first = mission_begins g.B.Bus.may M bus c.requires.mission c.requires.loaded in
@@ -62,9 +62,9 @@ returns-in_err-run_cycles g c =
 pub returns : goal.returns
 returns g c =
     let M = c.args.world.now.mission in
-    let bus = bus_value (g.B.Bus.log c.args.bus.now) (g.B.Bus.script c.args.bus.now) in
-    let out = sink_view (g.K.Sink.written c.args.out.now) (g.K.Sink.faults c.args.out.now) in
-    let out' = sink_view (g.K.Sink.written c.put_head.new.out) (g.K.Sink.faults c.put_head.new.out) in
+    let bus = g.B.Bus.seen c.args.bus.now in
+    let out = g.K.Sink.seen c.args.out.now in
+    let out' = g.K.Sink.seen c.put_head.new.out in
     let wrote : Puts out out' (head M) c.put_head.result = subst (λ m. Puts out out' (head m) c.put_head.result) c.mission-2.ensures c.put_head.ensures in
     let o = M.actuator in
     let first = mission_begins g.B.Bus.may M bus c.requires.mission c.requires.loaded in
@@ -74,9 +74,9 @@ returns g c =
     (subst (λ (w : WorldValue). IsAt g.B.Bus.may c.args.trace M o bus out w bus (option_map first_gate o) out') (sym c.requires.fresh) begun.0) in
     let (ran, all) = c.in_ok-run_cycles.ensures o M bus out at in
     let w = c.run_cycles.new.world in
-    let after = bus_value (g.B.Bus.log c.run_cycles.new.bus) (g.B.Bus.script c.run_cycles.new.bus) in
-    let before = sink_view (g.K.Sink.written c.run_cycles.new.out) (g.K.Sink.faults c.run_cycles.new.out) in
-    let last_out = sink_view (g.K.Sink.written c.put_end.new.out) (g.K.Sink.faults c.put_end.new.out) in
+    let after = g.B.Bus.seen c.run_cycles.new.bus in
+    let before = g.K.Sink.seen c.run_cycles.new.out in
+    let last_out = g.K.Sink.seen c.put_end.new.out in
     let mission = at_mission g.B.Bus.may c.args.trace M o bus out w after c.run_cycles.new.actuator before ran in
     let told : Puts before last_out (last M) c.put_end.result = subst (λ m. Puts before last_out (last m) c.put_end.result) (c.mission-3.ensures ∙ mission) c.put_end.ensures in
     subst (λ r. Runs g.B.Bus.may c.args.trace M o bus after out last_out r) (sym c.run_result-2.ensures)

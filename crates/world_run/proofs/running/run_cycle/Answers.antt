@@ -1,10 +1,10 @@
 use Rattle.std.proofs.Common.{suc, length, ap, sym, subst, ◌∙◌}
 use Rattle.guards_model.specs.Missions.{MissionValue}
-use Rattle.ideal_run.specs.Writes.{sink_view}
 use Rattle.icn_world.specs.Halts.{with_halt_value}
 use Rattle.run_laws.specs.Driving.{Drives}
 use Rattle.run_laws.proofs.Driving.{driven_fits}
-use Rattle.world_run.specs.Running.{bus_value, GoesTo, Puts, cycle_text}
+use Rattle.guards_io.specs.Writes.{Puts}
+use Rattle.world_run.specs.Running.{GoesTo, cycle_text}
 use Rattle.world_run.proofs.RunSteps.{step_done, step_halted}
 use Rattle.world_run.proofs.running.run_cycle.Goals as goal
 
@@ -17,7 +17,7 @@ pub put_cycle-requires : goal.put_cycle-requires
 put_cycle-requires g c =
     let (o, M, start, begun, at) = c.requires.at in
     let new = c.pass.new.world in
-    let after = bus_value (g.B.Bus.log c.pass.new.bus) (g.B.Bus.script c.pass.new.bus) in
+    let after = g.B.Bus.seen c.pass.new.bus in
     let d = subst (λ r. Drives o g.B.Bus.may M start c.args.world.now at.0 at.1 (with_halt_value r) new after c.pass.new.actuator) c.in-Ok.is (c.pass.ensures o M start at.0 at.1 at.2) in
     let fits = driven_fits g.B.Bus.may M start new after c.pass.new.actuator d.0 d.1 o d.2 in
     λ gate is. fits gate is ∙ ap (λ (m : MissionValue). length m.outputs) (sym c.mission.ensures)
@@ -27,10 +27,10 @@ returns-in-Ok g c =
     λ o M start begun at.
     let w = c.args.world.now in
     let new = c.pass.new.world in
-    let bus = bus_value (g.B.Bus.log c.args.bus.now) (g.B.Bus.script c.args.bus.now) in
-    let after = bus_value (g.B.Bus.log c.pass.new.bus) (g.B.Bus.script c.pass.new.bus) in
-    let out = sink_view (g.K.Sink.written c.args.out.now) (g.K.Sink.faults c.args.out.now) in
-    let out' = sink_view (g.K.Sink.written c.put_cycle.new.out) (g.K.Sink.faults c.put_cycle.new.out) in
+    let bus = g.B.Bus.seen c.args.bus.now in
+    let after = g.B.Bus.seen c.pass.new.bus in
+    let out = g.K.Sink.seen c.args.out.now in
+    let out' = g.K.Sink.seen c.put_cycle.new.out in
     let gate = c.args.actuator.now in
     let gate_after = c.pass.new.actuator in
     let d = subst (λ r. Drives o g.B.Bus.may M start w at.0 at.1 (with_halt_value r) new after gate_after) c.in-Ok.is (c.pass.ensures o M start at.0 at.1 at.2) in
@@ -44,10 +44,10 @@ returns-in-Err g c =
     λ o M start begun at.
     let w = c.args.world.now in
     let new = c.pass.new.world in
-    let bus = bus_value (g.B.Bus.log c.args.bus.now) (g.B.Bus.script c.args.bus.now) in
-    let after = bus_value (g.B.Bus.log c.pass.new.bus) (g.B.Bus.script c.pass.new.bus) in
-    let out = sink_view (g.K.Sink.written c.args.out.now) (g.K.Sink.faults c.args.out.now) in
-    let out' = sink_view (g.K.Sink.written c.put_halt.new.out) (g.K.Sink.faults c.put_halt.new.out) in
+    let bus = g.B.Bus.seen c.args.bus.now in
+    let after = g.B.Bus.seen c.pass.new.bus in
+    let out = g.K.Sink.seen c.args.out.now in
+    let out' = g.K.Sink.seen c.put_halt.new.out in
     let gate = c.args.actuator.now in
     let gate_after = c.pass.new.actuator in
     let d = subst (λ r. Drives o g.B.Bus.may M start w at.0 at.1 (with_halt_value r) new after gate_after) c.in-Err.is (c.pass.ensures o M start at.0 at.1 at.2) in

@@ -1,19 +1,19 @@
 use Rattle.std.proofs.Common.{◌≡◌, Option}
 use Rattle.guards_model.specs.Missions.{MissionValue, ActuatorValue}
-use Rattle.guards_world.specs.WorldCycle.{BusValue}
-use Rattle.ideal_run.specs.Writes.{SinkView, sink_view}
-use Rattle.world_run.specs.Running.{bus_value, IsAt}
+use Rattle.guards_model.specs.Network.{BusValue}
+use Rattle.guards_io.specs.Views.{SinkView}
+use Rattle.world_run.specs.Running.{IsAt}
 use Rattle.world_run.proofs.running.run_cycles.Given as goal
 
 -- so many cycles ran as were passed, whichever run it is
 abbrev pub invariant-loop-cycle : goal.invariant-loop-cycle
 invariant-loop-cycle g l =
     let at : Option ActuatorValue → MissionValue → BusValue → SinkView → Type 0 = λ o M start begun.
-    IsAt g.B.Bus.may l.trace M o start begun l.world (bus_value (g.B.Bus.log l.bus) (g.B.Bus.script l.bus)) l.actuator
-    (sink_view (g.K.Sink.written l.out) (g.K.Sink.faults l.out)) in
+    IsAt g.B.Bus.may l.trace M o start begun l.world (g.B.Bus.seen l.bus) l.actuator
+    (g.K.Sink.seen l.out) in
     let before : Option ActuatorValue → MissionValue → BusValue → SinkView → Type 0 = λ o M start begun.
-    IsAt g.B.Bus.may l.trace M o start begun l.fn.world (bus_value (g.B.Bus.log l.fn.bus) (g.B.Bus.script l.fn.bus)) l.fn.actuator
-    (sink_view (g.K.Sink.written l.fn.out) (g.K.Sink.faults l.fn.out)) in
+    IsAt g.B.Bus.may l.trace M o start begun l.fn.world (g.B.Bus.seen l.fn.bus) l.fn.actuator
+    (g.K.Sink.seen l.fn.out) in
     record {
       done : l.world.done ≡ l.cycle;
       kept : l.world.mission ≡ l.fn.world.mission;

@@ -1,8 +1,8 @@
 use Rattle.std.proofs.Common.{◌≤◌, length, sym, ap, subst, ◌∙◌, arith}
 use Rattle.std.proofs.lemmas.Result.{err_from_is_err_and}
 use Rattle.guards_model.specs.Missions.{MissionValue}
-use Rattle.ideal_run.specs.Writes.{SinkView, sink_view}
-use Rattle.world_run.specs.Running.{bus_value, Puts}
+use Rattle.guards_io.specs.Views.{SinkView}
+use Rattle.guards_io.specs.Writes.{Puts}
 use Rattle.world_run.specs.Tallying.{Summarizes, summary_of}
 use Rattle.world_run.proofs.Tallies.{summary_done}
 use Rattle.world_run.proofs.summary.summarize.Goals as goal
@@ -25,11 +25,11 @@ returns g c =
     let M = c.args.world.now.mission in
     let (at, all, unwritten) = c.in_ok-tally_cycles.ensures c.args.number in
     let w = c.tally_cycles.new.world in
-    let start = bus_value (g.B.Bus.log c.args.bus.now) (g.B.Bus.script c.args.bus.now) in
-    let after = bus_value (g.B.Bus.log c.tally_cycles.new.bus) (g.B.Bus.script c.tally_cycles.new.bus) in
-    let begun = sink_view (g.K.Sink.written c.args.out.now) (g.K.Sink.faults c.args.out.now) in
-    let out = sink_view (g.K.Sink.written c.tally_cycles.new.out) (g.K.Sink.faults c.tally_cycles.new.out) in
-    let out' = sink_view (g.K.Sink.written c.put_summary.new.out) (g.K.Sink.faults c.put_summary.new.out) in
+    let start = g.B.Bus.seen c.args.bus.now in
+    let after = g.B.Bus.seen c.tally_cycles.new.bus in
+    let begun = g.K.Sink.seen c.args.out.now in
+    let out = g.K.Sink.seen c.tally_cycles.new.out in
+    let out' = g.K.Sink.seen c.put_summary.new.out in
     let outputs = c.outputs.ensures ∙ ap (λ (m : MissionValue). m.outputs) (c.mission-mission.ensures ∙ at.2.mission) in
     let wrote : Puts out out' (summary_of c.args.number (length M.outputs) w.carried c.tally_cycles.new.tally) c.put_summary.result =
     subst (λ n. Puts out out' (summary_of c.args.number n w.carried c.tally_cycles.new.tally) c.put_summary.result) (ap length outputs)

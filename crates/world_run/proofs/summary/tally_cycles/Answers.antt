@@ -2,8 +2,7 @@ use Rattle.std.proofs.Common.{Err, refl, ap, subst, ◌∙◌, arith}
 use Rattle.std.proofs.lemmas.Result.{err_from_is_err_and}
 use Rattle.guards_model.specs.Missions.{MissionValue}
 use Rattle.guards_world.specs.Worlds.{WorldValue}
-use Rattle.ideal_run.specs.Writes.{SinkView, sink_view}
-use Rattle.world_run.specs.Running.{bus_value}
+use Rattle.guards_io.specs.Views.{SinkView}
 use Rattle.world_run.specs.Tallying.{TalliesTo}
 use Rattle.world_run.proofs.Tallies.{first_tallied}
 use Rattle.world_run.proofs.summary.tally_cycles.Goals as goal
@@ -11,7 +10,7 @@ use Rattle.world_run.proofs.summary.tally_cycles.Goals as goal
 pub loop-cycle-init : goal.loop-cycle-init
 loop-cycle-init g c =
     let done = ap (λ (w : WorldValue). w.done) c.requires.world in
-    let bus = bus_value (g.B.Bus.log c.args.bus.now) (g.B.Bus.script c.args.bus.now) in
+    let bus = g.B.Bus.seen c.args.bus.now in
     record {
       done = done;
       kept = refl;
@@ -26,9 +25,9 @@ returns-in_err-tally_cycle g c =
     let p = err_from_is_err_and c.from_residual.result c.from_residual.ensures.1 in
     let inv = c.loop-cycle.invariant in
     let M = c.args.world.now.mission in
-    let start = bus_value (g.B.Bus.log c.args.bus.now) (g.B.Bus.script c.args.bus.now) in
-    let after = bus_value (g.B.Bus.log c.tally_cycle.new.bus) (g.B.Bus.script c.tally_cycle.new.bus) in
-    let out' = sink_view (g.K.Sink.written c.tally_cycle.new.out) (g.K.Sink.faults c.tally_cycle.new.out) in
+    let start = g.B.Bus.seen c.args.bus.now in
+    let after = g.B.Bus.seen c.tally_cycle.new.bus in
+    let out' = g.K.Sink.seen c.tally_cycle.new.out in
     rw (p.1, p.2)
     (λ number. subst (λ (o : SinkView). TalliesTo g.B.Bus.may number M start o M.cycles c.tally_cycle.new.world after out' c.tally_cycle.new.tally (Err c.in_err-tally_cycle.field-0.0)) inv.unwritten
     (c.in_err-tally_cycle.ensures.goes_on number M start inv.at))
@@ -37,7 +36,7 @@ pub loop-cycle-preserved : goal.loop-cycle-preserved
 loop-cycle-preserved g c =
     let inv = c.loop-cycle.invariant in
     let M = c.args.world.now.mission in
-    let start = bus_value (g.B.Bus.log c.args.bus.now) (g.B.Bus.script c.args.bus.now) in
+    let start = g.B.Bus.seen c.args.bus.now in
     let next = c.in_ok-tally_cycle.ensures.goes_on 0 M start inv.at in
     record {
       done = omega (arith, next.1, inv.done);

@@ -1,4 +1,4 @@
-use Rattle.std.proofs.Common.{◌≡◌, ◌++◌, ◌∙◌, length, ap, sym}
+use Rattle.std.proofs.Common.{◌++◌, ◌∙◌, length, ap, sym}
 use Rattle.world_run.specs.Running.{cycle_text, words_line}
 use Rattle.world_run.proofs.writing.cycle_text.Goals as goal
 

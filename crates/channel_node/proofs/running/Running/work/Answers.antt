@@ -1,7 +1,5 @@
-use Rattle.std.proofs.Common.{◌≡◌, ◌∙◌, ◌-◌, ◌++◌, pos, ℕ, List, length, replicate, Some, sym, subst, ap, rules, true}
-use Rattle.guards_model.specs.declared.Actor.{Actor}
+use Rattle.std.proofs.Common.{◌≡◌, ◌∙◌, ◌-◌, ◌++◌, pos, List, length, replicate, Some, sym, subst, ap, rules, true}
 use Rattle.guards_model.specs.Contexts.{ContextValue}
-use Rattle.guards_model.specs.Frames.{CopyValue}
 use Rattle.guards_model.specs.Missions.{RulesValue, cycle_writes}
 use Rattle.guards_model.specs.Rounds.{IsFull, copies_of_replay}
 use Rattle.guards_model.specs.Tasks.{WriteValue, whole}

@@ -1,4 +1,4 @@
-use Rattle.control_state.proofs.SevenFlags.{few_members}
+use Rattle.guards_base.proofs.EachChannel.{few_members}
 use Rattle.channel_node.proofs.TreeLevels.{begun_tree}
 use Rattle.channel_node.proofs.tree.RoundTree.begin.Goals as goal
 

@@ -12,7 +12,7 @@ returns-in_ok-relay c =
     λ received stands.
     let few : length c.self.inside.tree.members ≤ 7 = subst (λ (s : ChannelSet). length s ≤ 7) c.self.invariant.members c.self.invariant.few in
     let same : length c.self.inside.active ≡ length c.self.inside.tree.members = ap (λ (s : ChannelSet). length s) c.self.invariant.members in
-    let high : c.args.round ≤ tolerated_faults c.self.inside.tree.members + 1 = omega (arith, same, c.count.ensures, c.saturating_sub.ensures, c.if-round-saturating_sub.true) in
+    let high : c.args.round ≤ tolerated_faults c.self.inside.tree.members + 1 = omega (arith, same, c.count.ensures.value, c.saturating_sub.ensures, c.if-round-saturating_sub.true) in
     subst
     (λ (x : ExchangeTreeValue). Some (exchange_body c.in_ok-relay.field-0) ≡ exchange_in received c.args.round x)
     c.self.view_is

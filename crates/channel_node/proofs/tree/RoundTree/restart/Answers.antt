@@ -1,5 +1,5 @@
 use Rattle.std.proofs.Common.{◌≡◌, subst}
-use Rattle.control_state.proofs.SevenFlags.{few_members}
+use Rattle.guards_base.proofs.EachChannel.{few_members}
 use Rattle.guards_nodes.specs.NodeStates.{ExchangeTreeValue}
 use Rattle.guards_nodes.specs.NodeSteps.{nothing_received, tree_of}
 use Rattle.channel_node.specs.Trees.{seen_tree}

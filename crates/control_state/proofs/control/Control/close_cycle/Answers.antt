@@ -1,6 +1,6 @@
-use Rattle.std.proofs.Common.{◌≡◌, ℕ, List, Option, sym, ap, ◌∙◌}
+use Rattle.std.proofs.Common.{ap, ◌∙◌}
 use Rattle.guards_model.specs.Missions.{RulesValue}
-use Rattle.guards_model.specs.Controls.{SweepingValue, ControlValue, sweeping_after, control_closed, closed_by}
+use Rattle.guards_model.specs.Controls.{ControlValue, control_closed, closed_by}
 use Rattle.control_state.proofs.ControlClosed.{are_closed, joined1, start1, remaining1, rest1, swept1, control1}
 use Rattle.control_state.proofs.Cycles.{stand_next}
 use Rattle.control_state.proofs.control.Control.close_cycle.Goals as goal
@@ -8,7 +8,7 @@ use Rattle.control_state.proofs.control.Control.close_cycle.Goals as goal
 pub returns-clause-control : goal.returns-clause-control
 returns-clause-control c =
     let known = are_closed c.args.rules.now.last c.self.inside.active c.self.inside.fresh c.self.inside.alphas c.self.inside.transfer c.args.decision.now.removed c.args.decision.now.plan c.args.written.now c.close_transfer.new.transfer c.joined-joined.result c.rules.inside.last c.close_transfer.ensures (ap (λ (r : RulesValue). r.last) c.rules.view_is) c.joined-joined.ensures in
-    control1 c.args.rules.now.last c.self.inside.active c.self.inside.fresh c.self.inside.alphas c.self.inside.transfer c.args.decision.now.removed c.args.decision.now.plan c.args.written.now c.close_transfer.new.transfer c.joined-joined.result known c.without.result c.union-self-inside.result c.carry-self-inside.result c.take-transfer.result c.end_transfer-self-inside.result c.without.ensures c.union-self-inside.ensures c.carry-self-inside.ensures c.take-transfer.ensures.value c.end_transfer-self-inside.ensures
+    control1 c.args.rules.now.last c.self.inside.active c.self.inside.fresh c.self.inside.alphas c.self.inside.transfer c.args.decision.now.removed c.args.decision.now.plan c.args.written.now c.close_transfer.new.transfer c.joined-joined.result known c.difference.result c.union-self-inside.result c.carry-self-inside.result c.take-transfer.result c.end_transfer-self-inside.result c.difference.ensures c.union-self-inside.ensures c.carry-self-inside.ensures c.take-transfer.ensures.value c.end_transfer-self-inside.ensures
     ∙ ap (λ (k : ControlValue). control_closed c.args.rules.now.last c.args.decision.now.removed c.args.decision.now.plan c.args.written.now k) c.self.view_is
 
 pub returns-clause-joined : goal.returns-clause-joined

@@ -1,8 +1,7 @@
-use Rattle.std.proofs.Common.{◌≡◌, ℕ, List, Option, sym, ap, ◌∙◌}
-use Rattle.guards_model.specs.Channels.{ChannelSet}
+use Rattle.std.proofs.Common.{ap, ◌∙◌}
 use Rattle.guards_model.specs.Missions.{RulesValue}
 use Rattle.guards_model.specs.Decisions.{has_started}
-use Rattle.guards_model.specs.Controls.{SweepingValue, ControlValue, sweeping_for, decided_by, control_decided}
+use Rattle.guards_model.specs.Controls.{ControlValue, decided_by, control_decided}
 use Rattle.control_state.proofs.Decides.{d0, judged0, counts0, removed0, transfer0, control0, started0, planned0, begins0, keeps0, plan_stands}
 use Rattle.control_state.proofs.control.Control.decide.Goals as goal
 

@@ -1,4 +1,4 @@
-use Rattle.std.proofs.Common.{◌≡◌, ℕ, List, [], ◌∷◌, None, refl, ap, ◌∙◌}
+use Rattle.std.proofs.Common.{◌≡◌, ℕ, [], ◌∷◌, None, ap, ◌∙◌}
 use Rattle.guards_model.specs.Channels.{ChannelSet, by_channel, numbers_below}
 use Rattle.guards_model.specs.Missions.{RulesValue}
 use Rattle.guards_model.specs.Controls.{ControlValue, first_control}

@@ -1,21 +1,23 @@
-use Rattle.std.proofs.Common.{◌≡◌, ◌∙◌, ◌&&◌, not, sym, ap, subst, false, refl}
+use Rattle.std.proofs.Common.{◌∙◌, ◌&&◌, not, ap}
 use Rattle.std.specs.List.{list_any}
-use Rattle.guards_model.specs.Channels.{has, by_channel}
-use Rattle.guards_model.specs.Modes.{is_up, is_joining, scripted_mode_at_start, scripted_mode_in_slot, mode_at_end}
+use Rattle.guards_model.specs.Channels.{ChannelSet, has, channels_where, place_or}
+use Rattle.guards_model.specs.Modes.{down, is_joining, scripted_mode_at_start}
 use Rattle.guards_model.specs.Damages.{is_damage}
-use Rattle.guards_model.specs.Ledgers.{LedgerValue, is_down, ledger_at_start, ledger_in_slot, ledger_at_end, turned_joining, turned_down, left_up}
-use Rattle.fault_script.specs.Entries.{standing_at}
-use Rattle.fault_script.specs.contracts.ledger.Ledger.{the_view}
-use Rattle.fault_script.proofs.LedgerSteps.{stepped, turned, length_made, no_marks, ends_alike}
+use Rattle.guards_model.specs.Ledgers.{LedgerValue, mode_of, ledger_at_start}
+use Rattle.guards_model.proofs.Tables.{has-channels_where}
+use Rattle.fault_script.proofs.LedgerSteps.{stepped}
 use Rattle.fault_script.proofs.ledger.Ledger.start_cycle.Goals as goal
 
 pub returns-clause-ledger : goal.returns-clause-ledger
 returns-clause-ledger c =
-    subst (λ (l : LedgerValue). the_view (record { return_after = c.self.inside.return_after; standings = c.started-after.result; damaged = c.marks-self-inside.result }) ≡ ledger_at_start c.args.script.now c.args.cycle l) c.self.view_is
-    (stepped c.self.inside.return_after c.self.inside.standings c.started-after.result c.self.inside.damaged c.marks-self-inside.result _ _
-    (λ q m. scripted_mode_at_start c.args.script.now q c.args.cycle m) (λ q. list_any (is_damage q c.args.cycle) c.args.script.now) c.self.invariant c.started-after.ensures c.damages.ensures c.flags.ensures.value c.marks-self-inside.ensures)
+    stepped c.self.inside.return_after c.self.inside.modes c.started-self-inside.result c.self.inside.damaged c.marks-self-inside.result c.damages.result
+    (λ q. scripted_mode_at_start c.args.script.now q c.args.cycle (place_or c.self.inside.modes q down)) (λ q. list_any (is_damage q c.args.cycle) c.args.script.now)
+    c.started-self-inside.ensures
+    (λ q low. ap (λ (set : ChannelSet). has set q) c.damages.ensures ∙ has-channels_where (λ p. list_any (is_damage p c.args.cycle) c.args.script.now) q low)
+    c.marks-self-inside.ensures
+    ∙ ap (ledger_at_start c.args.script.now c.args.cycle) c.self.view_is
 
 pub returns-clause-joining : goal.returns-clause-joining
 returns-clause-joining c =
-    subst (λ (l : LedgerValue). c.who_turned_joining.result ≡ turned_joining l (the_view (record { return_after = c.self.inside.return_after; standings = c.started-after.result; damaged = c.marks-self-inside.result }))) c.self.view_is
-    (c.who_turned_joining.ensures ∙ turned (λ a b. is_joining a && not (is_joining b)) c.self.inside.standings c.started-after.result c.self.invariant (length_made c.started-after.result _ c.started-after.ensures))
+    c.who_turned_joining.ensures
+    ∙ ap (λ (l : LedgerValue). channels_where (λ q. is_joining (place_or c.started-self-inside.result q down) && not (is_joining (mode_of l q)))) c.self.view_is

@@ -1,4 +1,4 @@
-use Rattle.std.proofs.Common.{ap, subst, sym, ◌++◌, drop, length, replicate, pos}
+use Rattle.std.proofs.Common.{subst, sym, ◌++◌, drop, length, replicate, pos}
 use Rattle.guards_base.specs.Padding.{IsPadded}
 use Rattle.guards_base.proofs.PaddedWords.{padded_words}
 use Rattle.guards_base.proofs.word.Ballot.of.Goals as goal

@@ -11,6 +11,6 @@ pub returns : goal.returns
 returns c =
     λ M told h.
     c.both-2.ensures
-    ∙ (λ i. (c.count.ensures i == 0) && (c.both.ensures ∙ (λ j. (c.in-Some.since == c.args.start) && c.within.ensures j)) i)
+    ∙ (λ i. (c.count.ensures.value i == 0) && (c.both.ensures ∙ (λ j. (c.in-Some.since == c.args.start) && c.within.ensures j)) i)
     ∙ one_goes_on told c.args.self.now.joined (record { targets = c.in-Some.before; start = c.in-Some.since }) (record { targets = c.args.targets; start = c.args.start })
     h.knows.joined (sym (ap transfer_of_pair c.in-Some.is) ∙ h.knows.transfer)

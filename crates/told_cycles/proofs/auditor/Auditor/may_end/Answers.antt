@@ -24,7 +24,7 @@ returns c =
     let first = first_is M r a.part.first c.in-Some.first h.part.first c.in-Some.is in
     let active = h.knows.active ∙ sym h.part.active in
     let stay = c.all_stay_rightly.ensures r (sym active) (λ q low. c.counts_told-counts.ensures q low ∙ ap (λ n. place_or (take n c.in-Some.first.counts) q 0) c.channel_count.ensures.value ∙ ap (λ (l : LineValue). place_or l.counts q 0) (sym first.1)) in
-    let left = c.count-left.ensures ∙ ap length c.minus.ensures in
+    let left = c.count-left.ensures.value ∙ ap length c.difference.ensures in
     let lined = c.within.ensures ∙ traced_all r a.part.lined a.part.traced h.part.lined h.part.traced in
     c.both-2.ensures
     ∙ (λ i. lined i && (c.both.ensures ∙ (λ j. c.within-2.ensures j && (c.both-stay.ensures ∙ (λ k. nat_le 3 (left k) && stay k)) j)) i)

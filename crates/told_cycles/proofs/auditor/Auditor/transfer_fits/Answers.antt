@@ -16,8 +16,8 @@ returns c =
     let a = c.args.self.now in
     let targets = c.in-Some.targets in
     λ told h.
-    let few = c.both-some.ensures ∙ (λ i. nat_le 1 (c.count-count.ensures i) && nat_le (c.count-count.ensures i) (c.returning_of.ensures i)) in
-    let rest = c.within.ensures ∙ ap (λ (s : ChannelSet). list_all (has s) targets) (c.minus-passive.ensures ∙ ap (λ (s : ChannelSet). without s a.active) c.everyone.ensures) ∙ passive_are M a.active targets in
+    let few = c.both-some.ensures ∙ (λ i. nat_le 1 (c.count-count.ensures.value i) && nat_le (c.count-count.ensures.value i) (c.returning_of.ensures i)) in
+    let rest = c.within.ensures ∙ ap (λ (s : ChannelSet). list_all (has s) targets) (c.difference-passive.ensures ∙ ap (λ (s : ChannelSet). without s a.active) c.everyone.ensures) ∙ passive_are M a.active targets in
     let runs = c.either-running.ensures ∙ (λ i. c.in-Some.start == h.knows.done i || c.goes_on.ensures M told h i) in
     c.both-2.ensures ∙ (λ i. few i && (c.both.ensures ∙ (λ j. rest j && runs j)) i)
     ∙ ap (λ o. transfer_fits M told a.active (transfer_of_pair o)) (sym c.in-Some.is)
