@@ -1,10 +1,10 @@
 -- A mission is told of to its end, unless memory runs out or a fault comes.
 use Rattle.std.proofs.Common.{◌≡◌, ◌≤◌, ◌⊎◌, inl, inr, ℕ, Bool, List, [], ◌∷◌, length, Some, Ok, refl, ap, subst, arith}
 use Rattle.guards_io.specs.Causes.{Rose}
-use Rattle.guards_io.specs.Stream.{SourceView}
+use Rattle.guards_io.specs.Views.{SourceView}
 use Rattle.guards_model.specs.Missions.{MissionValue}
 use Rattle.guards_model.specs.Texts.{TextValue}
-use Rattle.ideal_run.specs.Writes.{SinkView}
+use Rattle.guards_io.specs.Views.{SinkView}
 use Rattle.lint_lines.specs.LineTexts.{lint_text, warns}
 use Rattle.lint_run.specs.declared.status.LintStatus.{LintStatus}
 use Rattle.lint_run.specs.declared.status.LintStatus.TheVariants.{Clean, Warned, Stopped}

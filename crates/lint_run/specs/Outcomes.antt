@@ -2,10 +2,10 @@
 use Rattle.std.specs.Prelude.{◌≡◌, ◌≤◌, ◌⊎◌, ℕ, Bool, true, false, List, [], ◌∷◌, length, codes, Some, Ok}
 use Rattle.std.specs.Io.KnownBytes.{Appends}
 use Rattle.guards_io.specs.Causes.{Rose}
-use Rattle.guards_io.specs.Stream.{SourceView}
+use Rattle.guards_io.specs.Views.{SourceView}
 use Rattle.guards_model.specs.Missions.{MissionValue}
 use Rattle.guards_model.specs.Texts.{TextValue}
-use Rattle.ideal_run.specs.Writes.{SinkView}
+use Rattle.guards_io.specs.Views.{SinkView}
 use Rattle.lint_lines.specs.LineTexts.{lint_text, warns}
 use Rattle.lint_run.specs.declared.status.LintStatus.{LintStatus}
 use Rattle.lint_run.specs.declared.status.LintStatus.TheVariants.{Clean, Warned, Stopped}

@@ -1,13 +1,12 @@
 //! The top call: all that the program does.
 ghost use Rattle.std.specs.Prelude.{◌≡◌, ℕ, Bool, List};
-ghost use Rattle.guards_io.specs.Stream.{source_view};
-ghost use Rattle.ideal_run.specs.Writes.{SinkView, Writes, sink_view};
+ghost use Rattle.guards_io.specs.Views.{SinkView};
+ghost use Rattle.guards_io.specs.Writes.{Writes};
 ghost use Rattle.lint_run.specs.Outcomes.{LintCompletes, LintOutcome, LintsBytes, LintsMission, RefusesWith, TellsLines, lint_usage};
 
 use crate::status::LintStatus;
 use guards_base::Words;
-use guards_io::{Sink, Source};
-use ideal_run::{WriteStop, put};
+use guards_io::{Sink, Source, WriteStop, put};
 use lint_lines::{lines_text, warn};
 use mission_lint::find_lines;
 use mission_run::{Status, read_mission};
@@ -39,10 +38,10 @@ fn told(written: Result<(), WriteStop>, warned: bool) -> LintStatus
 }
 
 /// Writes the lines on a mission.
-#[tactic(auto, using(ideal_run::proofs::WritesLemmas::nothing_written))]
+#[tactic(auto, using(guards_io::proofs::WritesLemmas::nothing_written))]
 fn tell<K: Sink>(alloc: Global, mission: &Mission, out: &mut K) -> LintStatus
-    ensures { LintsMission mission.now (sink_view (K.written out.old) (K.faults out.old))
-        (sink_view (K.written out.new) (K.faults out.new)) result }
+    ensures { LintsMission mission.now (K.seen out.old)
+        (K.seen out.new) result }
 {
     let Ok(lines) = find_lines(alloc, mission) else {
         return LintStatus::Stopped(Status::NoMemory);
@@ -57,10 +56,10 @@ fn tell<K: Sink>(alloc: Global, mission: &Mission, out: &mut K) -> LintStatus
 /// Reads a mission, and writes the lines on it.
 fn read_and_tell<S: Source, K: Sink>(alloc: Global, src: &mut S, out: &mut K) -> LintStatus
     ensures { LintsBytes
-        (source_view (S.left src.old) (S.faults src.old))
-        (source_view (S.left src.new) (S.faults src.new))
-        (sink_view (K.written out.old) (K.faults out.old))
-        (sink_view (K.written out.new) (K.faults out.new)) result }
+        (S.seen src.old)
+        (S.seen src.new)
+        (K.seen out.old)
+        (K.seen out.new) result }
 {
     match read_mission(alloc, src, out) {
         Ok(mission) => tell(alloc, &mission, out),
@@ -75,10 +74,10 @@ fn carry_out<S: Source, K: Sink>(
     out: &mut K,
 ) -> LintStatus
     ensures { LintOutcome words.now.items
-        (source_view (S.left src.old) (S.faults src.old))
-        (source_view (S.left src.new) (S.faults src.new))
-        (sink_view (K.written out.old) (K.faults out.old))
-        (sink_view (K.written out.new) (K.faults out.new)) result }
+        (S.seen src.old)
+        (S.seen src.new)
+        (K.seen out.old)
+        (K.seen out.new) result }
 {
     if words.len() == 0 {
         read_and_tell(alloc, src, out)
@@ -97,15 +96,15 @@ pub fn lint<S: Source, K: Sink>(
     out: &mut K,
 ) -> LintStatus
     ensures outcome { LintOutcome words.now.items
-        (source_view (S.left src.old) (S.faults src.old))
-        (source_view (S.left src.new) (S.faults src.new))
-        (sink_view (K.written out.old) (K.faults out.old))
-        (sink_view (K.written out.new) (K.faults out.new)) result }
+        (S.seen src.old)
+        (S.seen src.new)
+        (K.seen out.old)
+        (K.seen out.new) result }
     ensures completes { LintCompletes words.now.items
-        (source_view (S.left src.old) (S.faults src.old))
-        (source_view (S.left src.new) (S.faults src.new))
-        (sink_view (K.written out.old) (K.faults out.old))
-        (sink_view (K.written out.new) (K.faults out.new)) result }
+        (S.seen src.old)
+        (S.seen src.new)
+        (K.seen out.old)
+        (K.seen out.new) result }
 {
     carry_out(alloc, words, src, out)
 }

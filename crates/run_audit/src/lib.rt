@@ -2,7 +2,7 @@
 #![tactic(auto)]
 
 mod line;
-mod pieces;
+pub mod pieces;
 mod recorded;
 mod verdict;
 

@@ -1,6 +1,6 @@
 use Rattle.std.proofs.Common.{◌≡◌, ◌∙◌, Bool, List, ap, subst}
 use Rattle.guards_model.specs.Texts.{TextValue}
-use Rattle.ideal_run.specs.Writes.{SinkView, sink_view}
+use Rattle.guards_io.specs.Views.{SinkView}
 use Rattle.lint_lines.specs.LineTexts.{lint_text, warns}
 use Rattle.lint_lines.specs.declared.line.LintLine.{LintLine}
 use Rattle.mission_lint.specs.Lines.{lint_of}
@@ -10,8 +10,8 @@ use Rattle.lint_run.proofs.top.tell.Goals as goal
 pub returns : goal.returns
 returns g c =
     let M = c.args.mission.now in
-    let before : SinkView = sink_view (g.K.Sink.written c.args.out.now) (g.K.Sink.faults c.args.out.now) in
-    let after : SinkView = sink_view (g.K.Sink.written c.put-written.new.out) (g.K.Sink.faults c.put-written.new.out) in
+    let before : SinkView = g.K.Sink.seen c.args.out.now in
+    let after : SinkView = g.K.Sink.seen c.put-written.new.out in
     let lines : c.as_slice.result.now ≡ lint_of M = c.as_slice.ensures ∙ c.in-Ok.ensures in
     let again : c.as_slice-2.result.now ≡ lint_of M = c.as_slice-2.ensures ∙ c.in-Ok.ensures in
     let text : c.as_str.result.now ≡ lint_text (lint_of M) = c.as_str.ensures ∙ c.in-Ok-lines_text.ensures ∙ ap (λ (ls : List LintLine). lint_text ls) lines in

@@ -1,0 +1,4 @@
+pub mod Same
+pub mod MarksReadBack
+pub mod ShownSets
+pub mod MarkLists

@@ -1,0 +1,7 @@
+use Rattle.std.proofs.Common.{map}
+use Rattle.picture_marks.specs.Shown.{lane_shown_in}
+use Rattle.picture_marks.proofs.MarksReadBack.{all_maximal}
+use Rattle.picture_marks.proofs.spans_are_maximal.Goals as goal
+
+pub returns : goal.returns
+returns c = λ told lane. all_maximal lane (map (lane_shown_in lane) told)

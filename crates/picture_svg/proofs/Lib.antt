@@ -1,0 +1,2 @@
+pub mod PlotSteps
+pub mod PlacesRise

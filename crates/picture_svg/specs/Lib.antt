@@ -1,0 +1,4 @@
+pub mod Sheet
+pub mod Drawing
+pub mod Looks
+pub mod Picture

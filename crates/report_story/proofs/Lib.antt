@@ -1,0 +1,4 @@
+pub mod Stepping
+pub mod Sized
+mod StopLemmas
+pub mod StoryFilling

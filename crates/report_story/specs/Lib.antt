@@ -1,0 +1,4 @@
+pub mod Answers
+pub mod Places
+pub mod Sizing
+pub mod Stops

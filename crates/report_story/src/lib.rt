@@ -1,0 +1,11 @@
+//! Reads what a report tells, line by line, as far as a picture shows it. A report that breaks off is told as far as it
+//! goes; the first line that may not come where it stands is named.
+#![tactic(auto)]
+
+mod reader;
+mod reading;
+mod sizes;
+mod stop;
+
+pub use reader::Reader;
+pub use reading::{BadReport, read_report};
