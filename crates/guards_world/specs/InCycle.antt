@@ -34,24 +34,24 @@ ledger_in M e slot =
     }
 
 -- The modes are those of `slot`. So many slots are carried: their due entries are in the log, and none of them halts. So
--- many are handed over: each node holds what the facts say when these are done. L has the entries of the earlier cycles,
--- and `now` those of this one.
-pub record InCycle (M : MissionValue) (L now : Log) (steps : Steps) (slot : Slot) (carried handed : ℕ) (w : WorldValue) : Type 0 where
+-- many are handed over: each node holds what the facts say when these are done. `earlier` has the entries of the earlier cycles,
+-- and `current` those of this one.
+pub record InCycle (M : MissionValue) (earlier current : Log) (steps : Steps) (slot : Slot) (carried handed : ℕ) (w : WorldValue) : Type 0 where
   pub mission : w.mission ≡ M
   pub ranges : IsMission M
   pub below : w.done < M.cycles
   pub unspent : w.spent ≡ None
-  pub count : w.carried ≡ length L + length now
-  pub before : AreDue M (cycles_before M (L ++ now) w.done) L
-  pub unstopped : stop_of (cycles_before M (L ++ now) w.done) ≡ None
-  pub current : AllZip
-      (λ carry entry. IsMadeBy M (cycles_before M (L ++ now) w.done) (cycle_at M (L ++ now) w.done)
+  pub count : w.carried ≡ length earlier + length current
+  pub before : AreDue M (cycles_before M (earlier ++ current) w.done) earlier
+  pub unstopped : stop_of (cycles_before M (earlier ++ current) w.done) ≡ None
+  pub made : AllZip
+      (λ carry entry. IsMadeBy M (cycles_before M (earlier ++ current) w.done) (cycle_at M (earlier ++ current) w.done)
       (steps_of steps carry.from) carry entry)
-      (carries_done w.done (cycle_at M (L ++ now) w.done) carried) now
-  pub unhalted : (s : Slot) → slot_index s < carried → halts w.done (cycle_at M (L ++ now) w.done) s ≡ false
-  pub nodes : w.nodes ≡ map (node_in M (L ++ now) w.done steps slot handed) (channels_of M)
-  pub ledger : w.ledger ≡ ledger_in M (cycle_at M (L ++ now) w.done) slot
-  pub switches : w.switches ≡ active_set M (cycles_before M (L ++ now) w.done)
+      (carries_done w.done (cycle_at M (earlier ++ current) w.done) carried) current
+  pub unhalted : (s : Slot) → slot_index s < carried → halts w.done (cycle_at M (earlier ++ current) w.done) s ≡ false
+  pub nodes : w.nodes ≡ map (node_in M (earlier ++ current) w.done steps slot handed) (channels_of M)
+  pub ledger : w.ledger ≡ ledger_in M (cycle_at M (earlier ++ current) w.done) slot
+  pub switches : w.switches ≡ active_set M (cycles_before M (earlier ++ current) w.done)
 
 -- whom a cycle's entries so far charge: those whose piece was not delivered as sent
 abbrev pub charged_by : ℕ → Slot → Log → ChannelSet

@@ -18,11 +18,11 @@ use Rattle.guards_world.specs.Worlds.{WorldValue, settled_after}
 use Rattle.guards_world.specs.InCycle.{node_in, ledger_in}
 
 -- The nodes that are switched off rest, those that took a final content run, the ledger and the switches are those after
--- the cycle, and one cycle more is done. L has the entries of the earlier cycles, and `now` those of this one.
+-- the cycle, and one cycle more is done. `earlier` has the entries of the earlier cycles, and `current` those of this one.
 abbrev pub world_after : MissionValue → Log → Log → Steps → ℕ → ℕ → WorldValue
-world_after M L now steps n carried =
-    let past : Past = cycles_before M (L ++ now) n in
-    let e : Cycle = cycle_at M (L ++ now) n in
+world_after M earlier current steps n carried =
+    let past : Past = cycles_before M (earlier ++ current) n in
+    let e : Cycle = cycle_at M (earlier ++ current) n in
     record {
       mission = M;
       done = suc n;
@@ -54,22 +54,22 @@ AreDueCarries M L n steps carries new =
     AllZip (λ carry entry. IsMadeBy M (cycles_before M L n) (cycle_at M L n) (steps_of steps carry.from) carry entry) carries new
 
 -- The run stops in a slot of cycle n, and in no earlier one: the entries up to the end of the slot are due.
-pub record IsStopIn (M : MissionValue) (L now : Log) (n : ℕ) (steps : Steps) (slot : Slot) : Type 0 where
-  pub due : AreDueCarries M (L ++ now) n steps (carries_through n (cycle_at M (L ++ now) n) slot) now
-  pub stops : stop_in n (cycle_at M (L ++ now) n)
+pub record IsStopIn (M : MissionValue) (earlier current : Log) (n : ℕ) (steps : Steps) (slot : Slot) : Type 0 where
+  pub due : AreDueCarries M (earlier ++ current) n steps (carries_through n (cycle_at M (earlier ++ current) n) slot) current
+  pub stops : stop_in n (cycle_at M (earlier ++ current) n)
       ≡ Some (record {
         cycle = n;
         slot = slot;
-        set = disturbed_channels n (cycle_at M (L ++ now) n) slot;
-        active = (cycle_at M (L ++ now) n).active;
+        set = disturbed_channels n (cycle_at M (earlier ++ current) n) slot;
+        active = (cycle_at M (earlier ++ current) n).active;
       })
-  pub before : stop_of (cycles_before M (L ++ now) n) ≡ None
+  pub before : stop_of (cycles_before M (earlier ++ current) n) ≡ None
 
 -- What was carried of cycle n is a front of its due entries.
 abbrev pub IsFront : MissionValue → Log → Log → ℕ → Type 0
-IsFront M L now n =
-    AllZip (IsDue M (cycles_before M (L ++ now) n) (cycle_at M (L ++ now) n))
-    (take (length now) (cycle_carries n (cycle_at M (L ++ now) n))) now
+IsFront M earlier current n =
+    AllZip (IsDue M (cycles_before M (earlier ++ current) n) (cycle_at M (earlier ++ current) n))
+    (take (length current) (cycle_carries n (cycle_at M (earlier ++ current) n))) current
 
 -- ---- arrivals
 

@@ -61,12 +61,12 @@ pub record IsLinePadded (M : MissionValue) (l : LineValue) : Type 0 where
   pub counts : drop M.rules.channels l.counts ≡ replicate (7 - M.rules.channels) 0
 
 -- The cycle finished. `e` has its facts, from the log with this cycle's entries.
-pub record Finishes (old : WorldValue) (L now : Log) (part : RecordValue) (new : WorldValue) (e : Cycle) (past : Past) : Type 0 where
-  pub earlier : past ≡ cycles_before old.mission (L ++ now) old.done
-  pub facts : e ≡ next_cycle old.mission (L ++ now) past
+pub record Finishes (old : WorldValue) (earlier current : Log) (part : RecordValue) (new : WorldValue) (e : Cycle) (past : Past) : Type 0 where
+  pub past_is : past ≡ cycles_before old.mission (earlier ++ current) old.done
+  pub facts : e ≡ next_cycle old.mission (earlier ++ current) past
   pub steps : Steps
   -- the log grew by the due entries, in order
-  pub due : AreMadeBy old.mission steps past e now
+  pub due : AreMadeBy old.mission steps past e current
   pub full : AreFull old.mission past e steps
   -- the answer is the record of the cycle, in the places that the mission has; the others are empty
   pub record_is : shown old.mission.rules.channels old.mission.width (length old.mission.outputs) part
@@ -76,7 +76,7 @@ pub record Finishes (old : WorldValue) (L now : Log) (part : RecordValue) (new :
   pub mission : new.mission ≡ old.mission
   pub done : new.done ≡ suc old.done
   pub spent : new.spent ≡ None
-  pub stands : StandsForWorld new (L ++ now)
+  pub stands : StandsForWorld new (earlier ++ current)
   -- agreement and restoration
   pub sound : IsSoundCycle old.mission past e
   -- each running channel that stays active has its trail
@@ -87,12 +87,12 @@ pub record Finishes (old : WorldValue) (L now : Log) (part : RecordValue) (new :
       option_and_then context_of (node_of new q) ≡ context_taken old.mission q past e
 
 -- The cycle stopped at the end of a slot: the entries up to there are due, and nothing was computed from that slot.
-pub record Stops (old : WorldValue) (L now : Log) (stop : StopValue) (new : WorldValue) (e : Cycle) (past : Past) : Type 0 where
-  pub earlier : past ≡ cycles_before old.mission (L ++ now) old.done
-  pub facts : e ≡ next_cycle old.mission (L ++ now) past
+pub record Stops (old : WorldValue) (earlier current : Log) (stop : StopValue) (new : WorldValue) (e : Cycle) (past : Past) : Type 0 where
+  pub past_is : past ≡ cycles_before old.mission (earlier ++ current) old.done
+  pub facts : e ≡ next_cycle old.mission (earlier ++ current) past
   pub steps : Steps
   pub due : AllZip (λ carry entry. IsMadeBy old.mission past e (steps_of steps carry.from) carry entry)
-      (carries_through old.done e stop.slot) now
+      (carries_through old.done e stop.slot) current
   -- where the tasks slot was passed, its channels worked
   pub full : slot_index Tasks < slot_index stop.slot → AreFull old.mission past e steps
   pub stop_is : stop_in old.done e ≡ Some stop
@@ -102,19 +102,19 @@ pub record Stops (old : WorldValue) (L now : Log) (stop : StopValue) (new : Worl
   pub spent : new.spent ≡ Some (disturbed stop)
 
 -- Memory ran out: the entries are the first of the due ones.
-pub record CycleRunsOutOfMemory (old : WorldValue) (L now : Log) (new : WorldValue) (e : Cycle) (past : Past) : Type 0 where
-  pub earlier : past ≡ cycles_before old.mission (L ++ now) old.done
-  pub facts : e ≡ next_cycle old.mission (L ++ now) past
-  pub due : AllZip (IsDue old.mission past e) (take (length now) (cycle_carries old.done e)) now
+pub record CycleRunsOutOfMemory (old : WorldValue) (earlier current : Log) (new : WorldValue) (e : Cycle) (past : Past) : Type 0 where
+  pub past_is : past ≡ cycles_before old.mission (earlier ++ current) old.done
+  pub facts : e ≡ next_cycle old.mission (earlier ++ current) past
+  pub due : AllZip (IsDue old.mission past e) (take (length current) (cycle_carries old.done e)) current
   pub mission : new.mission ≡ old.mission
   pub done : new.done ≡ old.done
   pub spent : new.spent ≡ Some no_memory
 
 -- what a world that is not spent does, by the answer
 abbrev pub Ends : WorldValue → Log → Log → Result RecordValue HaltValue → WorldValue → Type 0
-Ends old L now (Ok part) new = (e : Cycle) × (past : Past) × Finishes old L now part new e past
-Ends old L now (Err (disturbed stop)) new = (e : Cycle) × (past : Past) × Stops old L now stop new e past
-Ends old L now (Err no_memory) new = (e : Cycle) × (past : Past) × CycleRunsOutOfMemory old L now new e past
+Ends old earlier current (Ok part) new = (e : Cycle) × (past : Past) × Finishes old earlier current part new e past
+Ends old earlier current (Err (disturbed stop)) new = (e : Cycle) × (past : Past) × Stops old earlier current stop new e past
+Ends old earlier current (Err no_memory) new = (e : Cycle) × (past : Past) × CycleRunsOutOfMemory old earlier current new e past
 
 -- What a call does that passes one cycle. A spent world answers its halt again and carries nothing.
 abbrev pub PassesCycle : (List RuleValue → EntryValue → Type 0) → Option HaltValue → WorldValue → BusValue →

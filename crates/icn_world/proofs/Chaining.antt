@@ -44,9 +44,9 @@ then {may = may} {R = R} {r = r} {w = w} {w1 = w1} {w2 = w2} {d2 = d2} {b = b} {
       mission = two.mission ∙ one.mission;
       done = two.done ∙ one.done;
       count = counts_on w.carried w1.carried w2.carried one.entries two.entries one.count two.count;
-      ends = λ L now steps held.
-          subst (λ (all : Log). Reaches R r L all steps w2 d2) (append_assoc now one.entries two.entries)
-          (two.ends L (now ++ one.entries) steps (one.ends L now steps held));
+      ends = λ earlier current steps held.
+          subst (λ (all : Log). Reaches R r earlier all steps w2 d2) (append_assoc current one.entries two.entries)
+          (two.ends earlier (current ++ one.entries) steps (one.ends earlier current steps held));
     }
 
 -- a part that halted: so the whole halts
@@ -60,7 +60,7 @@ halted one =
       mission = one.mission;
       done = one.done;
       count = one.count;
-      ends = λ L now steps held. one.ends L now steps held;
+      ends = λ earlier current steps held. one.ends earlier current steps held;
     }
 
 -- the error that a `?` takes on
@@ -79,7 +79,7 @@ halted_by {may = may} {P = P} {R = R} {h = h} {w = w} {w1 = w1} {d = d} {d1 = d1
 pub without_carry : {A : Type 0} (may : List RuleValue → EntryValue → Type 0) (P : Condition) (Q : A → Condition)
     (r : Result A Halt) (w w1 : WorldValue) (d d1 : Disturbance) (b : BusValue) →
     w1.mission ≡ w.mission → w1.done ≡ w.done → w1.carried ≡ w.carried →
-    ((L now : Log) (steps : Steps) → P L now steps w d → Reaches Q r L now steps w1 d1) → PassesPart may P Q r w w1 d d1 b b
+    ((earlier current : Log) (steps : Steps) → P earlier current steps w d → Reaches Q r earlier current steps w1 d1) → PassesPart may P Q r w w1 d d1 b b
 without_carry may P Q r w w1 d d1 b mission done count ends =
     record {
       entries = [];
@@ -87,23 +87,23 @@ without_carry may P Q r w w1 d d1 b mission done count ends =
       mission = mission;
       done = done;
       count = omega (arith, count);
-      ends = λ L now steps held. subst (λ (all : Log). Reaches Q r L all steps w1 d1) (sym (append-nil now)) (ends L now steps held);
+      ends = λ earlier current steps held. subst (λ (all : Log). Reaches Q r earlier all steps w1 d1) (sym (append-nil current)) (ends earlier current steps held);
     }
 
 -- a part that finds no memory, when what was carried before is a front of the run's due entries
 pub without_memory : {A : Type 0} (may : List RuleValue → EntryValue → Type 0) (P : Condition) (Q : A → Condition)
     (r : Result A Halt) (w w1 : WorldValue) (d : Disturbance) (b : BusValue) → IsErrAnd r (λ x. x ≡ NoMemory) → IsWorldKept w w1 →
-    ((L now : Log) (steps : Steps) → P L now steps w d → IsRunFront w.mission L now w.done) → PassesPart may P Q r w w1 d d b b
+    ((earlier current : Log) (steps : Steps) → P earlier current steps w d → IsRunFront w.mission earlier current w.done) → PassesPart may P Q r w w1 d d b b
 without_memory may P Q r w w1 d b none kept front =
     subst (λ (x : Result _ Halt). PassesPart may P Q x w w1 d d b b) (sym (err_is r NoMemory none))
     (without_carry may P Q (Err NoMemory) w w1 d d b kept.mission kept.done kept.carried
-    (λ L now steps held. subst (λ (n : ℕ). IsRunFront w1.mission L now n) (sym kept.done)
-    (subst (λ (M : MissionValue). IsRunFront M L now w.done) (sym kept.mission) (front L now steps held))))
+    (λ earlier current steps held. subst (λ (n : ℕ). IsRunFront w1.mission earlier current n) (sym kept.done)
+    (subst (λ (M : MissionValue). IsRunFront M earlier current w.done) (sym kept.mission) (front earlier current steps held))))
 
 -- a step that carries nothing, and then a part
 pub after_step : {A : Type 0} {may : List RuleValue → EntryValue → Type 0} {P : Condition} {Q : A → Condition}
     {r : Result A Halt} {w1 w2 : WorldValue} {d d2 : Disturbance} {b b2 : BusValue} (O : Condition) (w : WorldValue) → IsWorldKept w w1 →
-    ((L now : Log) (steps : Steps) → O L now steps w d → P L now steps w1 d) →
+    ((earlier current : Log) (steps : Steps) → O earlier current steps w d → P earlier current steps w1 d) →
     PassesPart may P Q r w1 w2 d d2 b b2 → PassesPart may O Q r w w2 d d2 b b2
 after_step {may = may} {P = P} {w1 = w1} {d = d} {b = b} O w kept step one =
     then {x = tt} (without_carry may O (λ (u : Unit {0}). P) (Ok tt) w w1 d d b kept.mission kept.done kept.carried step) one
@@ -111,20 +111,20 @@ after_step {may = may} {P = P} {w1 = w1} {d = d} {b = b} O w kept step one =
 -- a part that ended well, and then a step that carries nothing
 pub then_step : {A B : Type 0} {may : List RuleValue → EntryValue → Type 0} {P : Condition} {Q : A → Condition}
     {x : A} {w w1 : WorldValue} {d d1 : Disturbance} {b b1 : BusValue} (R : B → Condition) (y : B) (w2 : WorldValue) → IsWorldKept w1 w2 →
-    ((L now : Log) (steps : Steps) → Q x L now steps w1 d1 → R y L now steps w2 d1) →
+    ((earlier current : Log) (steps : Steps) → Q x earlier current steps w1 d1 → R y earlier current steps w2 d1) →
     PassesPart may P Q (Ok x) w w1 d d1 b b1 → PassesPart may P R (Ok y) w w2 d d1 b b1
 then_step {may = may} {Q = Q} {x = x} {w1 = w1} {d1 = d1} {b1 = b1} R y w2 kept step one =
     then one (without_carry may (Q x) R (Ok y) w1 w2 d1 d1 b1 kept.mission kept.done kept.carried step)
 
-reaches_more : {A : Type 0} (Q R : A → Condition) (r : Result A Halt) (L now : Log) (steps : Steps) (w : WorldValue) (d : Disturbance) →
-    ((x : A) → Q x L now steps w d → R x L now steps w d) → Reaches Q r L now steps w d → Reaches R r L now steps w d
-reaches_more Q R (Ok x) L now steps w d more held = more x held
-reaches_more Q R (Err h) L now steps w d more held = held
+reaches_more : {A : Type 0} (Q R : A → Condition) (r : Result A Halt) (earlier current : Log) (steps : Steps) (w : WorldValue) (d : Disturbance) →
+    ((x : A) → Q x earlier current steps w d → R x earlier current steps w d) → Reaches Q r earlier current steps w d → Reaches R r earlier current steps w d
+reaches_more Q R (Ok x) earlier current steps w d more held = more x held
+reaches_more Q R (Err h) earlier current steps w d more held = held
 
 -- a part of which more is known by what held before it
 pub knowing : {A : Type 0} {may : List RuleValue → EntryValue → Type 0} {P : Condition} {Q : A → Condition}
     {r : Result A Halt} {w w1 : WorldValue} {d d1 : Disturbance} {b b1 : BusValue} (R : A → Condition) →
-    ((x : A) (L now new : Log) (steps : Steps) → P L now steps w d → Q x L (now ++ new) steps w1 d1 → R x L (now ++ new) steps w1 d1) →
+    ((x : A) (earlier current new : Log) (steps : Steps) → P earlier current steps w d → Q x earlier (current ++ new) steps w1 d1 → R x earlier (current ++ new) steps w1 d1) →
     PassesPart may P Q r w w1 d d1 b b1 → PassesPart may P R r w w1 d d1 b b1
 knowing {Q = Q} {r = r} {w1 = w1} {d1 = d1} R more one =
     record {
@@ -133,14 +133,14 @@ knowing {Q = Q} {r = r} {w1 = w1} {d1 = d1} R more one =
       mission = one.mission;
       done = one.done;
       count = one.count;
-      ends = λ L now steps held.
-          reaches_more Q R r L (now ++ one.entries) steps w1 d1 (λ x found. more x L now one.entries steps held found) (one.ends L now steps held);
+      ends = λ earlier current steps held.
+          reaches_more Q R r earlier (current ++ one.entries) steps w1 d1 (λ x found. more x earlier current one.entries steps held found) (one.ends earlier current steps held);
     }
 
 -- a part whose condition follows from another one
 pub from : {A : Type 0} {may : List RuleValue → EntryValue → Type 0} {P : Condition} {Q : A → Condition}
     {r : Result A Halt} {w w1 : WorldValue} {d d1 : Disturbance} {b b1 : BusValue} (O : Condition) →
-    ((L now : Log) (steps : Steps) → O L now steps w d → P L now steps w d) →
+    ((earlier current : Log) (steps : Steps) → O earlier current steps w d → P earlier current steps w d) →
     PassesPart may P Q r w w1 d d1 b b1 → PassesPart may O Q r w w1 d d1 b b1
 from O weaker one =
     record {
@@ -149,5 +149,5 @@ from O weaker one =
       mission = one.mission;
       done = one.done;
       count = one.count;
-      ends = λ L now steps held. one.ends L now steps (weaker L now steps held);
+      ends = λ earlier current steps held. one.ends earlier current steps (weaker earlier current steps held);
     }

@@ -146,13 +146,13 @@ taken_lasts M L new n steps taken late have q low joins =
 
 -- ---- the same of a world
 
-pub taken_by : (old w : WorldValue) (L now : Log) (steps : Steps) (got : Bodies) (members taken : ChannelSet) → w ≡ old → members ≡ w.switches →
-    InCycle old.mission L now steps Final 8 7 old → AreArrivals old.mission (L ++ now) old.done Final got →
+pub taken_by : (old w : WorldValue) (earlier current : Log) (steps : Steps) (got : Bodies) (members taken : ChannelSet) → w ≡ old → members ≡ w.switches →
+    InCycle old.mission earlier current steps Final 8 7 old → AreArrivals old.mission (earlier ++ current) old.done Final got →
     ((q : Channel) → q < 7 → has taken q ≡ list_any (λ node. takes members got node && (node.channel == q)) w.nodes) →
-    HaveTaken taken old.mission (L ++ now) old.done steps
-taken_by old w L now steps got members taken same on inside are took =
+    HaveTaken taken old.mission (earlier ++ current) old.done steps
+taken_by old w earlier current steps got members taken same on inside are took =
     let M = old.mission in
-    let all : Log = L ++ now in
+    let all : Log = earlier ++ current in
     let now_on : members ≡ (cycle_at M all old.done).active = on ∙ ap (λ (x : WorldValue). x.switches) same ∙ inside.switches ∙ sym (active-is M all (cycles_before M all old.done)) in
     have_taken M all old.done steps inside.ranges members got now_on are taken
     (λ q low. took q low ∙ ap (λ (nodes : List NodeValue). list_any (λ node. takes members got node && (node.channel == q)) nodes) (ap (λ (x : WorldValue). x.nodes) same ∙ inside.nodes))

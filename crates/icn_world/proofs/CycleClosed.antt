@@ -130,14 +130,14 @@ may_close_by old w members got nodes same held are =
 
 -- what the first running node answers
 pub first_closes : (old w : WorldValue) (members : ChannelSet) (got : Bodies) (nodes : List NodeValue) → w ≡ old →
-    (L now : Log) (steps : Steps) → InCycle old.mission L now steps Sweep 7 6 old → nodes ≡ map (with_sweeps w.done members got) w.nodes →
-    first_closing w.mission w.done nodes ≡ Some (closed_of (cycle_at old.mission (L ++ now) old.done))
-first_closes old w members got nodes same L now steps held are =
-    let inside : InCycle w.mission L now steps Sweep 7 6 w = subst (λ (x : WorldValue). InCycle x.mission L now steps Sweep 7 6 x) (sym same) held in
-    let one = one_runs w.mission L now steps Sweep Sweep 7 6 w inside (ltb-true 6 7 refl) in
+    (earlier current : Log) (steps : Steps) → InCycle old.mission earlier current steps Sweep 7 6 old → nodes ≡ map (with_sweeps w.done members got) w.nodes →
+    first_closing w.mission w.done nodes ≡ Some (closed_of (cycle_at old.mission (earlier ++ current) old.done))
+first_closes old w members got nodes same earlier current steps held are =
+    let inside : InCycle w.mission earlier current steps Sweep 7 6 w = subst (λ (x : WorldValue). InCycle x.mission earlier current steps Sweep 7 6 x) (sym same) held in
+    let one = one_runs w.mission earlier current steps Sweep Sweep 7 6 w inside (ltb-true 6 7 refl) in
     ap (first_closing w.mission w.done) (are ∙ ap (map (with_sweeps w.done members got)) inside.nodes)
-    ∙ first_is w.mission (L ++ now) w.done steps members got inside.ranges one.0 one.2 one.3
-    ∙ ap (λ (x : WorldValue). Some (closed_of (cycle_at x.mission (L ++ now) x.done))) same
+    ∙ first_is w.mission (earlier ++ current) w.done steps members got inside.ranges one.0 one.2 one.3
+    ∙ ap (λ (x : WorldValue). Some (closed_of (cycle_at x.mission (earlier ++ current) x.done))) same
 
 -- so there is one
 pub some_closes : {A : Type 0} (f : A → ClosedValue) (o : Option A) (first : Option ClosedValue) (c : ClosedValue) → option_map f o ≡ first → first ≡ Some c → IsSome o
@@ -155,12 +155,12 @@ closes_by f o x first c got is h = inner (f x) c (sym (ap (option_map f) got) �
 
 -- ---- the world with the sweep slot handed over
 
-pub swept_by : (old w : WorldValue) (L now : Log) (steps : Steps) (got : Bodies) (members : ChannelSet) (nodes left : List NodeValue) → w ≡ old → members ≡ w.switches →
-    AreArrivals old.mission (L ++ now) old.done Sweep got → nodes ≡ map (with_sweeps w.done members got) w.nodes → left ≡ map (closed_in w.mission w.done) nodes →
-    InCycle w.mission L now steps Sweep 7 6 w → left ≡ nodes_in w.mission (L ++ now) w.done steps Sweep 7
-swept_by old w L now steps got members nodes left same on are swept closed inside =
+pub swept_by : (old w : WorldValue) (earlier current : Log) (steps : Steps) (got : Bodies) (members : ChannelSet) (nodes left : List NodeValue) → w ≡ old → members ≡ w.switches →
+    AreArrivals old.mission (earlier ++ current) old.done Sweep got → nodes ≡ map (with_sweeps w.done members got) w.nodes → left ≡ map (closed_in w.mission w.done) nodes →
+    InCycle w.mission earlier current steps Sweep 7 6 w → left ≡ nodes_in w.mission (earlier ++ current) w.done steps Sweep 7
+swept_by old w earlier current steps got members nodes left same on are swept closed inside =
     let M = w.mission in
-    let all : Log = L ++ now in
+    let all : Log = earlier ++ current in
     let now_on : members ≡ (cycle_at M all w.done).active = on ∙ inside.switches ∙ sym (active-is M all (cycles_before M all w.done)) in
     closed
     ∙ ap (map (closed_in M w.done)) (swept ∙ ap (λ (s : ChannelSet). map (with_sweeps w.done s got) w.nodes) now_on ∙ ap (map (with_sweeps w.done (cycle_at M all w.done).active got)) inside.nodes)

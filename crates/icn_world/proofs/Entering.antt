@@ -102,13 +102,13 @@ opened_world w L steps ledger last newcomers fell nodes left stands l1 j n1 l2 d
 
 -- ---- a slot
 
-pub entered_world : (w : WorldValue) (L now : Log) (steps : Steps) (before slot : Slot) (carried handed : ℕ) (last : LedgerValue) (fell : ChannelSet) (left : List NodeValue) →
-    InCycle w.mission L now steps before carried handed w → up_to before slot ≡ true → on_bus slot ≡ true →
+pub entered_world : (w : WorldValue) (earlier current : Log) (steps : Steps) (before slot : Slot) (carried handed : ℕ) (last : LedgerValue) (fell : ChannelSet) (left : List NodeValue) →
+    InCycle w.mission earlier current steps before carried handed w → up_to before slot ≡ true → on_bus slot ≡ true →
     last ≡ ledger_in_slot w.mission.script w.done slot w.ledger → fell ≡ turned_down w.ledger last → left ≡ map (fallen_if fell) w.nodes →
-    record w { nodes = left; ledger = last } ≡ world_in w.mission (L ++ now) steps slot handed w
-entered_world w L now steps before slot carried handed last fell left inside soon on l d n =
+    record w { nodes = left; ledger = last } ≡ world_in w.mission (earlier ++ current) steps slot handed w
+entered_world w earlier current steps before slot carried handed last fell left inside soon on l d n =
     let M = w.mission in
-    let all : Log = L ++ now in
+    let all : Log = earlier ++ current in
     let e : Cycle = cycle_at M all w.done in
     let size : length (cycles_before M all w.done) ≡ w.done = length-cycles_before M all w.done in
     let next : last ≡ ledger_in M e slot =
@@ -125,12 +125,12 @@ entered_world w L now steps before slot carried handed last fell left inside soo
     ∙ ap (λ (x : LedgerValue). record w { nodes = nodes_in M all w.done steps slot handed; ledger = x }) next
 
 -- the nodes alone are those of a slot handed over
-pub handed_world : (w : WorldValue) (L now : Log) (steps : Steps) (slot : Slot) (carried handed more : ℕ) (left : List NodeValue) →
-    InCycle w.mission L now steps slot carried handed w → left ≡ nodes_in w.mission (L ++ now) w.done steps slot more →
-    record w { nodes = left } ≡ world_in w.mission (L ++ now) steps slot more w
-handed_world w L now steps slot carried handed more left inside n =
+pub handed_world : (w : WorldValue) (earlier current : Log) (steps : Steps) (slot : Slot) (carried handed more : ℕ) (left : List NodeValue) →
+    InCycle w.mission earlier current steps slot carried handed w → left ≡ nodes_in w.mission (earlier ++ current) w.done steps slot more →
+    record w { nodes = left } ≡ world_in w.mission (earlier ++ current) steps slot more w
+handed_world w earlier current steps slot carried handed more left inside n =
     ap (λ (ns : List NodeValue). record w { nodes = ns }) n
-    ∙ ap (λ (x : LedgerValue). record w { nodes = nodes_in w.mission (L ++ now) w.done steps slot more; ledger = x }) inside.ledger
+    ∙ ap (λ (x : LedgerValue). record w { nodes = nodes_in w.mission (earlier ++ current) w.done steps slot more; ledger = x }) inside.ledger
 
 -- ---- the calls
 
@@ -156,34 +156,34 @@ opens_by old w L steps ledger last newcomers fell nodes left same held below uns
     (subst (λ (x : WorldValue). InCycle w.mission L [] steps Request 0 0 x) (sym made) inside)
 
 -- a world that has entered a slot is in it
-pub enters_by : (old w : WorldValue) (L now : Log) (steps : Steps) (before slot : Slot) (carried handed : ℕ) (last : LedgerValue) (fell : ChannelSet) (left : List NodeValue) →
-    w ≡ old → InCycle old.mission L now steps before carried handed old → up_to before slot ≡ true → on_bus slot ≡ true →
+pub enters_by : (old w : WorldValue) (earlier current : Log) (steps : Steps) (before slot : Slot) (carried handed : ℕ) (last : LedgerValue) (fell : ChannelSet) (left : List NodeValue) →
+    w ≡ old → InCycle old.mission earlier current steps before carried handed old → up_to before slot ≡ true → on_bus slot ≡ true →
     last ≡ ledger_in_slot w.mission.script w.done slot w.ledger → fell ≡ turned_down w.ledger last → left ≡ map (fallen_if fell) w.nodes →
-    InCycle old.mission L now steps slot carried handed (record w { nodes = left; ledger = last })
-enters_by old w L now steps before slot carried handed last fell left same held soon on l d n =
-    let inside : InCycle w.mission L now steps before carried handed w = subst (λ (x : WorldValue). InCycle x.mission L now steps before carried handed x) (sym same) held in
-    let made = entered_world w L now steps before slot carried handed last fell left inside soon on l d n in
-    subst (λ (M : MissionValue). InCycle M L now steps slot carried handed (record w { nodes = left; ledger = last })) (ap (λ (x : WorldValue). x.mission) same)
-    (subst (λ (x : WorldValue). InCycle w.mission L now steps slot carried handed x) (sym made)
-    (enters_slot w.mission L now steps before slot carried handed handed w inside))
+    InCycle old.mission earlier current steps slot carried handed (record w { nodes = left; ledger = last })
+enters_by old w earlier current steps before slot carried handed last fell left same held soon on l d n =
+    let inside : InCycle w.mission earlier current steps before carried handed w = subst (λ (x : WorldValue). InCycle x.mission earlier current steps before carried handed x) (sym same) held in
+    let made = entered_world w earlier current steps before slot carried handed last fell left inside soon on l d n in
+    subst (λ (M : MissionValue). InCycle M earlier current steps slot carried handed (record w { nodes = left; ledger = last })) (ap (λ (x : WorldValue). x.mission) same)
+    (subst (λ (x : WorldValue). InCycle w.mission earlier current steps slot carried handed x) (sym made)
+    (enters_slot w.mission earlier current steps before slot carried handed handed w inside))
 
 -- a world whose nodes took what a slot carried is handed over
-pub hands_by : (old w : WorldValue) (L now : Log) (steps : Steps) (slot : Slot) (carried handed more : ℕ) (left : List NodeValue) →
-    w ≡ old → InCycle old.mission L now steps slot carried handed old →
-    (InCycle w.mission L now steps slot carried handed w → left ≡ nodes_in w.mission (L ++ now) w.done steps slot more) →
-    InCycle old.mission L now steps slot carried more (record w { nodes = left })
-hands_by old w L now steps slot carried handed more left same held took =
-    let inside : InCycle w.mission L now steps slot carried handed w = subst (λ (x : WorldValue). InCycle x.mission L now steps slot carried handed x) (sym same) held in
-    let made = handed_world w L now steps slot carried handed more left inside (took inside) in
-    subst (λ (M : MissionValue). InCycle M L now steps slot carried more (record w { nodes = left })) (ap (λ (x : WorldValue). x.mission) same)
-    (subst (λ (x : WorldValue). InCycle w.mission L now steps slot carried more x) (sym made)
-    (enters_slot w.mission L now steps slot slot carried handed more w inside))
+pub hands_by : (old w : WorldValue) (earlier current : Log) (steps : Steps) (slot : Slot) (carried handed more : ℕ) (left : List NodeValue) →
+    w ≡ old → InCycle old.mission earlier current steps slot carried handed old →
+    (InCycle w.mission earlier current steps slot carried handed w → left ≡ nodes_in w.mission (earlier ++ current) w.done steps slot more) →
+    InCycle old.mission earlier current steps slot carried more (record w { nodes = left })
+hands_by old w earlier current steps slot carried handed more left same held took =
+    let inside : InCycle w.mission earlier current steps slot carried handed w = subst (λ (x : WorldValue). InCycle x.mission earlier current steps slot carried handed x) (sym same) held in
+    let made = handed_world w earlier current steps slot carried handed more left inside (took inside) in
+    subst (λ (M : MissionValue). InCycle M earlier current steps slot carried more (record w { nodes = left })) (ap (λ (x : WorldValue). x.mission) same)
+    (subst (λ (x : WorldValue). InCycle w.mission earlier current steps slot carried more x) (sym made)
+    (enters_slot w.mission earlier current steps slot slot carried handed more w inside))
 
 -- the request slot
-pub heard_by : (old w : WorldValue) (L now : Log) (steps : Steps) (got : Bodies) → w ≡ old →
-    AreArrivals old.mission (L ++ now) old.done Request got → InCycle w.mission L now steps Request 1 0 w →
-    map (with_requests got) w.nodes ≡ nodes_in w.mission (L ++ now) w.done steps Request 1
-heard_by old w L now steps got same are inside =
+pub heard_by : (old w : WorldValue) (earlier current : Log) (steps : Steps) (got : Bodies) → w ≡ old →
+    AreArrivals old.mission (earlier ++ current) old.done Request got → InCycle w.mission earlier current steps Request 1 0 w →
+    map (with_requests got) w.nodes ≡ nodes_in w.mission (earlier ++ current) w.done steps Request 1
+heard_by old w earlier current steps got same are inside =
     ap (map (with_requests got)) inside.nodes
-    ∙ all_heard w.mission (L ++ now) w.done steps got inside.ranges
-    (subst (λ (x : WorldValue). AreArrivals x.mission (L ++ now) x.done Request got) (sym same) are)
+    ∙ all_heard w.mission (earlier ++ current) w.done steps got inside.ranges
+    (subst (λ (x : WorldValue). AreArrivals x.mission (earlier ++ current) x.done Request got) (sym same) are)

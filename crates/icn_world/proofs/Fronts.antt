@@ -14,10 +14,10 @@ use Rattle.world_laws.specs.Fronts.{IsRunFront}
 use Rattle.world_laws.proofs.RunFronts.{run_front}
 
 -- where the next slot of the bus is this one
-pub is_front : (M : MissionValue) (L now : Log) (steps : Steps) (slot next : Slot) (handed : ℕ) (w : WorldValue) → on_bus next ≡ true →
-    InCycle M L now steps slot (slot_index next) handed w → IsRunFront M L now w.done
-is_front M L now steps slot next handed w on inside =
-    let entered : InCycle M L now steps next (slot_index next) (slot_index next) (world_in M (L ++ now) steps next (slot_index next) w) =
-    enters_slot M L now steps slot next (slot_index next) handed (slot_index next) w inside in
-    subst (λ (all : Log). IsRunFront M L all w.done) (append-nil now)
-    (run_front M L now [] steps next on (world_in M (L ++ now) steps next (slot_index next) w) entered 0 tt)
+pub is_front : (M : MissionValue) (earlier current : Log) (steps : Steps) (slot next : Slot) (handed : ℕ) (w : WorldValue) → on_bus next ≡ true →
+    InCycle M earlier current steps slot (slot_index next) handed w → IsRunFront M earlier current w.done
+is_front M earlier current steps slot next handed w on inside =
+    let entered : InCycle M earlier current steps next (slot_index next) (slot_index next) (world_in M (earlier ++ current) steps next (slot_index next) w) =
+    enters_slot M earlier current steps slot next (slot_index next) handed (slot_index next) w inside in
+    subst (λ (all : Log). IsRunFront M earlier all w.done) (append-nil current)
+    (run_front M earlier current [] steps next on (world_in M (earlier ++ current) steps next (slot_index next) w) entered 0 tt)

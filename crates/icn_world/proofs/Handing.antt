@@ -61,7 +61,7 @@ decision_of_vote M L n steps q =
       );
     }
 
-pub may_vote_by : (old w : WorldValue) → w ≡ old → (L : Log) × (now : Log) × (steps : Steps) × InCycle old.mission L now steps Vote 6 5 old → All (HasDecision w.mission) w.nodes
+pub may_vote_by : (old w : WorldValue) → w ≡ old → (earlier : Log) × (current : Log) × (steps : Steps) × InCycle old.mission earlier current steps Vote 6 5 old → All (HasDecision w.mission) w.nodes
 may_vote_by old w same held =
     let inside : InCycle w.mission held.0 held.1 held.2 Vote 6 5 w = subst (λ (x : WorldValue). InCycle x.mission held.0 held.1 held.2 Vote 6 5 x) (sym same) held.3 in
     subst (λ (nodes : List NodeValue). All (HasDecision w.mission) nodes) (sym inside.nodes)
@@ -70,21 +70,21 @@ may_vote_by old w same held =
 
 -- ---- the slots
 
-pub voted_by : (old w : WorldValue) (L now : Log) (steps : Steps) (got : Bodies) → w ≡ old →
-    AreArrivals old.mission (L ++ now) old.done Vote got → HaveWorked old.mission (L ++ now) old.done → InCycle w.mission L now steps Vote 6 5 w →
-    map (with_votes w.mission got) w.nodes ≡ nodes_in w.mission (L ++ now) w.done steps Vote 6
-voted_by old w L now steps got same are worked inside =
+pub voted_by : (old w : WorldValue) (earlier current : Log) (steps : Steps) (got : Bodies) → w ≡ old →
+    AreArrivals old.mission (earlier ++ current) old.done Vote got → HaveWorked old.mission (earlier ++ current) old.done → InCycle w.mission earlier current steps Vote 6 5 w →
+    map (with_votes w.mission got) w.nodes ≡ nodes_in w.mission (earlier ++ current) w.done steps Vote 6
+voted_by old w earlier current steps got same are worked inside =
     ap (map (with_votes w.mission got)) inside.nodes
-    ∙ all_voted w.mission (L ++ now) w.done steps inside.ranges got
-    (subst (λ (x : WorldValue). AreArrivals x.mission (L ++ now) x.done Vote got) (sym same) are)
-    (subst (λ (x : WorldValue). HaveWorked x.mission (L ++ now) x.done) (sym same) worked)
+    ∙ all_voted w.mission (earlier ++ current) w.done steps inside.ranges got
+    (subst (λ (x : WorldValue). AreArrivals x.mission (earlier ++ current) x.done Vote got) (sym same) are)
+    (subst (λ (x : WorldValue). HaveWorked x.mission (earlier ++ current) x.done) (sym same) worked)
 
-pub filled_by : (old w : WorldValue) (L now : Log) (steps : Steps) (got : Bodies) (members : ChannelSet) → w ≡ old → members ≡ w.switches →
-    AreArrivals old.mission (L ++ now) old.done Final got → InCycle w.mission L now steps Final 8 7 w →
-    map (with_finals members got) w.nodes ≡ nodes_in w.mission (L ++ now) w.done steps Final 8
-filled_by old w L now steps got members same on are inside =
+pub filled_by : (old w : WorldValue) (earlier current : Log) (steps : Steps) (got : Bodies) (members : ChannelSet) → w ≡ old → members ≡ w.switches →
+    AreArrivals old.mission (earlier ++ current) old.done Final got → InCycle w.mission earlier current steps Final 8 7 w →
+    map (with_finals members got) w.nodes ≡ nodes_in w.mission (earlier ++ current) w.done steps Final 8
+filled_by old w earlier current steps got members same on are inside =
     let M = w.mission in
-    let all : Log = L ++ now in
+    let all : Log = earlier ++ current in
     let now_on : members ≡ (cycle_at M all w.done).active = on ∙ inside.switches ∙ sym (active-is M all (cycles_before M all w.done)) in
     ap (λ (s : ChannelSet). map (with_finals s got) w.nodes) now_on
     ∙ ap (map (with_finals (cycle_at M all w.done).active got)) inside.nodes

@@ -31,8 +31,8 @@ closed_same e x j d r =
     ap (λ joined. C joined x.transfer x.remaining) j ∙ ap (λ (y : DecisionValue). C e.joined y.transfer x.remaining) d ∙ ap (C e.joined e.transfer) r
 
 -- the world w goes on to the world x of the same cycle, by these entries
-module _ (L now new : Log) (steps : Steps) (slot last : Slot) (carried handed more given : ℕ) (w x : WorldValue) (mission : x.mission ≡ w.mission) (done : x.done ≡ w.done)
-    (was : InCycle w.mission L now steps slot carried handed w) (is : InCycle x.mission L (now ++ new) steps last more given x) where
+module _ (earlier current new : Log) (steps : Steps) (slot last : Slot) (carried handed more given : ℕ) (w x : WorldValue) (mission : x.mission ≡ w.mission) (done : x.done ≡ w.done)
+    (was : InCycle w.mission earlier current steps slot carried handed w) (is : InCycle x.mission earlier (current ++ new) steps last more given x) where
   abbrev M : MissionValue
   M = w.mission
 
@@ -40,22 +40,22 @@ module _ (L now new : Log) (steps : Steps) (slot last : Slot) (carried handed mo
   n = w.done
 
   late : AreFromPlace n carried new
-  late = follows M L now new steps steps slot last carried handed more given w x done was (subst (λ (m : MissionValue). InCycle m L (now ++ new) steps last more given x) mission is)
+  late = follows M earlier current new steps steps slot last carried handed more given w x done was (subst (λ (m : MissionValue). InCycle m earlier (current ++ new) steps last more given x) mission is)
 
   -- what is true of the mission and the count of cycles
-  here : (F : MissionValue → Log → ℕ → Type 0) → F M ((L ++ now) ++ new) n → F x.mission (L ++ (now ++ new)) x.done
+  here : (F : MissionValue → Log → ℕ → Type 0) → F M ((earlier ++ current) ++ new) n → F x.mission (earlier ++ (current ++ new)) x.done
   here F h =
-      subst (λ (c : ℕ). F x.mission (L ++ (now ++ new)) c) (sym done)
-      (subst (λ (m : MissionValue). F m (L ++ (now ++ new)) n) (sym mission) (subst (λ (all : Log). F M all n) (append_assoc L now new) h))
+      subst (λ (c : ℕ). F x.mission (earlier ++ (current ++ new)) c) (sym done)
+      (subst (λ (m : MissionValue). F m (earlier ++ (current ++ new)) n) (sym mission) (subst (λ (all : Log). F M all n) (append_assoc earlier current new) h))
 
-  pub closed_later : 4 ≤ carried → (c : ClosedValue) → c ≡ closed_of (facts_in w (L ++ now)) → c ≡ closed_of (facts_in x (L ++ (now ++ new)))
+  pub closed_later : 4 ≤ carried → (c : ClosedValue) → c ≡ closed_of (facts_in w (earlier ++ current)) → c ≡ closed_of (facts_in x (earlier ++ (current ++ new)))
   closed_later far c h =
-      let stays = rounds_later M (L ++ now) new n carried late far in
+      let stays = rounds_later M (earlier ++ current) new n carried late far in
       here (λ m all k. c ≡ closed_of (cycle_at m all k))
-      (h ∙ sym (closed_same (cycle_at M (L ++ now) n) (cycle_at M ((L ++ now) ++ new) n) stays.joined stays.decision stays.remaining))
+      (h ∙ sym (closed_same (cycle_at M (earlier ++ current) n) (cycle_at M ((earlier ++ current) ++ new) n) stays.joined stays.decision stays.remaining))
 
   abbrev LastsBy : ChannelSet → MissionValue → Log → ℕ → Type 0
   LastsBy taken m all k = (q : Channel) → q < 7 → is_joining (mode_in (cycle_at m all k) q Switch) ≡ true → has taken q ≡ is_some (content_taken m q (cycles_before m all k) (cycle_at m all k))
 
-  pub taken_later : 8 ≤ carried → (taken : ChannelSet) → HaveTaken taken M (L ++ now) n steps → LastsBy taken x.mission (L ++ (now ++ new)) x.done
-  taken_later far taken have = here (LastsBy taken) (taken_lasts M (L ++ now) new n steps taken (weaken n 8 carried new far late) have)
+  pub taken_later : 8 ≤ carried → (taken : ChannelSet) → HaveTaken taken M (earlier ++ current) n steps → LastsBy taken x.mission (earlier ++ (current ++ new)) x.done
+  taken_later far taken have = here (LastsBy taken) (taken_lasts M (earlier ++ current) new n steps taken (weaken n 8 carried new far late) have)

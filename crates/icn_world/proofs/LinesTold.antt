@@ -178,11 +178,11 @@ module _ (M : MissionValue) (L : Log) (n : ℕ) (steps : Steps) (mission : IsMis
   )
 
 -- the world's nodes tell these lines
-pub tells_by : (old w : WorldValue) (L now : Log) (steps : Steps) (got : Bodies) (items : List LineValue) → w ≡ old →
-    items ≡ filter_map (vote_line w.mission got) w.nodes → InCycle old.mission L now steps Vote 6 5 old →
-    AreArrivals old.mission (L ++ now) old.done Vote got → HaveWorked old.mission (L ++ now) old.done →
-    AreLinesOf old.mission (cycle_at old.mission (L ++ now) old.done) Vote items
-tells_by old w L now steps got items same is inside are worked =
-    subst (λ (ls : List LineValue). AreLinesOf old.mission (cycle_at old.mission (L ++ now) old.done) Vote ls)
+pub tells_by : (old w : WorldValue) (earlier current : Log) (steps : Steps) (got : Bodies) (items : List LineValue) → w ≡ old →
+    items ≡ filter_map (vote_line w.mission got) w.nodes → InCycle old.mission earlier current steps Vote 6 5 old →
+    AreArrivals old.mission (earlier ++ current) old.done Vote got → HaveWorked old.mission (earlier ++ current) old.done →
+    AreLinesOf old.mission (cycle_at old.mission (earlier ++ current) old.done) Vote items
+tells_by old w earlier current steps got items same is inside are worked =
+    subst (λ (ls : List LineValue). AreLinesOf old.mission (cycle_at old.mission (earlier ++ current) old.done) Vote ls)
     (sym (is ∙ ap (λ (x : WorldValue). filter_map (vote_line x.mission got) x.nodes) same ∙ ap (filter_map (vote_line old.mission got)) inside.nodes))
-    (all_told old.mission (L ++ now) old.done steps inside.ranges got are worked)
+    (all_told old.mission (earlier ++ current) old.done steps inside.ranges got are worked)

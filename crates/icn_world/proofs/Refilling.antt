@@ -32,43 +32,43 @@ use Rattle.icn_world.proofs.Lasting.{closed_later, taken_later}
 
 -- ---- each slot
 
-pub may_sweep : (targets : ChannelSet) (w w1 : WorldValue) (d : Disturbance) → IsWorldKept w w1 → Enters Sweep w w1 → (L now : Log) (steps : Steps) →
-    MayRestore targets L now steps w d → MayCarry Sweep targets L now steps w1 d
-may_sweep targets w w1 d kept enters L now steps held =
-    may_carry Vote Sweep targets L now steps w w1 d kept enters refl refl held.stands (sym held.targets_are)
+pub may_sweep : (targets : ChannelSet) (w w1 : WorldValue) (d : Disturbance) → IsWorldKept w w1 → Enters Sweep w w1 → (earlier current : Log) (steps : Steps) →
+    MayRestore targets earlier current steps w d → MayCarry Sweep targets earlier current steps w1 d
+may_sweep targets w w1 d kept enters earlier current steps held =
+    may_carry Vote Sweep targets earlier current steps w w1 d kept enters refl refl held.stands (sym held.targets_are)
 
-pub may_take : (joined : ChannelSet) (w w1 : WorldValue) (d : Disturbance) → IsWorldKept w w1 → Enters Final w w1 → (L now : Log) (steps : Steps) →
-    MayTakeContent joined L now steps w d → MayCarry Final joined L now steps w1 d
-may_take joined w w1 d kept enters L now steps held =
-    may_carry Sweep Final joined L now steps w w1 d kept enters refl refl held.stands (sym held.joined_are)
+pub may_take : (joined : ChannelSet) (w w1 : WorldValue) (d : Disturbance) → IsWorldKept w w1 → Enters Final w w1 → (earlier current : Log) (steps : Steps) →
+    MayTakeContent joined earlier current steps w d → MayCarry Final joined earlier current steps w1 d
+may_take joined w w1 d kept enters earlier current steps held =
+    may_carry Sweep Final joined earlier current steps w w1 d kept enters refl refl held.stands (sym held.joined_are)
 
-pub may_switch : (w w1 : WorldValue) (d : Disturbance) → IsWorldKept w w1 → Enters Switch w w1 → (L now : Log) (steps : Steps) →
-    IsWithinCycle Final 8 8 L now steps w d → MayCarry Switch (switchboard ∷ []) L now steps w1 d
-may_switch w w1 d kept enters L now steps held = may_carry Final Switch (switchboard ∷ []) L now steps w w1 d kept enters refl refl held refl
+pub may_switch : (w w1 : WorldValue) (d : Disturbance) → IsWorldKept w w1 → Enters Switch w w1 → (earlier current : Log) (steps : Steps) →
+    IsWithinCycle Final 8 8 earlier current steps w d → MayCarry Switch (switchboard ∷ []) earlier current steps w1 d
+may_switch w w1 d kept enters earlier current steps held = may_carry Final Switch (switchboard ∷ []) earlier current steps w w1 d kept enters refl refl held refl
 
 pub closes : (arrived : ArrivedValue) (closed : Closed) (w x : WorldValue) (d : Disturbance) → IsWorldKept w x →
-    ((L now : Log) (steps : Steps) → InCycle w.mission L now steps Sweep 7 6 w → AreArrivals w.mission (L ++ now) w.done Sweep (got_of arrived) → InCycle w.mission L now steps Sweep 7 7 x) →
-    ((L now : Log) (steps : Steps) → InCycle w.mission L now steps Sweep 7 6 w → closed_value closed ≡ closed_of (cycle_at w.mission (L ++ now) w.done)) →
-    (L now : Log) (steps : Steps) → HasArrived Sweep arrived L now steps w d → HasClosed closed L now steps x d
-closes arrived closed w x d kept state answer L now steps has =
+    ((earlier current : Log) (steps : Steps) → InCycle w.mission earlier current steps Sweep 7 6 w → AreArrivals w.mission (earlier ++ current) w.done Sweep (got_of arrived) → InCycle w.mission earlier current steps Sweep 7 7 x) →
+    ((earlier current : Log) (steps : Steps) → InCycle w.mission earlier current steps Sweep 7 6 w → closed_value closed ≡ closed_of (cycle_at w.mission (earlier ++ current) w.done)) →
+    (earlier current : Log) (steps : Steps) → HasArrived Sweep arrived earlier current steps w d → HasClosed closed earlier current steps x d
+closes arrived closed w x d kept state answer earlier current steps has =
     record {
-      stands = still_inside Sweep Sweep 7 6 7 7 L now steps w x d kept has.stands (λ late. omega arith) (state L now steps has.stands.inside has.arrivals);
-      closed_is = of_kept (λ M n. closed_value closed ≡ closed_of (cycle_at M (L ++ now) n)) w x kept (answer L now steps has.stands.inside);
+      stands = still_inside Sweep Sweep 7 6 7 7 earlier current steps w x d kept has.stands (λ late. omega arith) (state earlier current steps has.stands.inside has.arrivals);
+      closed_is = of_kept (λ M n. closed_value closed ≡ closed_of (cycle_at M (earlier ++ current) n)) w x kept (answer earlier current steps has.stands.inside);
     }
 
 pub takes : (arrived : ArrivedValue) (taken : ChannelSet) (w x : WorldValue) (d : Disturbance) → IsWorldKept w x →
-    ((L now : Log) (steps : Steps) → InCycle w.mission L now steps Final 8 7 w → AreArrivals w.mission (L ++ now) w.done Final (got_of arrived) → InCycle w.mission L now steps Final 8 8 x) →
-    ((L now : Log) (steps : Steps) → InCycle w.mission L now steps Final 8 7 w → AreArrivals w.mission (L ++ now) w.done Final (got_of arrived) → HaveTaken taken w.mission (L ++ now) w.done steps) →
-    (L now : Log) (steps : Steps) → HasArrived Final arrived L now steps w d → IsTaken taken L now steps x d
-takes arrived taken w x d kept state answer L now steps has =
+    ((earlier current : Log) (steps : Steps) → InCycle w.mission earlier current steps Final 8 7 w → AreArrivals w.mission (earlier ++ current) w.done Final (got_of arrived) → InCycle w.mission earlier current steps Final 8 8 x) →
+    ((earlier current : Log) (steps : Steps) → InCycle w.mission earlier current steps Final 8 7 w → AreArrivals w.mission (earlier ++ current) w.done Final (got_of arrived) → HaveTaken taken w.mission (earlier ++ current) w.done steps) →
+    (earlier current : Log) (steps : Steps) → HasArrived Final arrived earlier current steps w d → IsTaken taken earlier current steps x d
+takes arrived taken w x d kept state answer earlier current steps has =
     record {
-      stands = still_inside Final Final 8 7 8 8 L now steps w x d kept has.stands (λ late. omega arith) (state L now steps has.stands.inside has.arrivals);
-      taken_are = of_kept (λ M n. HaveTaken taken M (L ++ now) n steps) w x kept (answer L now steps has.stands.inside has.arrivals);
+      stands = still_inside Final Final 8 7 8 8 earlier current steps w x d kept has.stands (λ late. omega arith) (state earlier current steps has.stands.inside has.arrivals);
+      taken_are = of_kept (λ M n. HaveTaken taken M (earlier ++ current) n steps) w x kept (answer earlier current steps has.stands.inside has.arrivals);
     }
 
 -- the switch slot hands nothing to the nodes
-switched : (M : MissionValue) (L now : Log) (steps : Steps) (w : WorldValue) → InCycle M L now steps Switch 9 8 w → InCycle M L now steps Switch 9 9 w
-switched M L now steps w inside =
+switched : (M : MissionValue) (earlier current : Log) (steps : Steps) (w : WorldValue) → InCycle M earlier current steps Switch 9 8 w → InCycle M earlier current steps Switch 9 9 w
+switched M earlier current steps w inside =
     record {
       mission = inside.mission;
       ranges = inside.ranges;
@@ -77,9 +77,9 @@ switched M L now steps w inside =
       count = inside.count;
       before = inside.before;
       unstopped = inside.unstopped;
-      current = inside.current;
+      made = inside.made;
       unhalted = inside.unhalted;
-      nodes = inside.nodes ∙ all_switched M (L ++ now) w.done steps inside.ranges;
+      nodes = inside.nodes ∙ all_switched M (earlier ++ current) w.done steps inside.ranges;
       ledger = inside.ledger;
       switches = inside.switches;
     }
@@ -88,22 +88,22 @@ pub nothing_kept : (w : WorldValue) → IsWorldKept w w
 nothing_kept w = record { mission = refl; done = refl; carried = refl }
 
 pub sends : (arrived : ArrivedValue) (sent : List (Option ChannelSet)) (w : WorldValue) (d : Disturbance) → sent ≡ by_channel (λ j. set_of (got_of arrived j switchboard)) →
-    (L now : Log) (steps : Steps) → HasArrived Switch arrived L now steps w d → IsSwitched sent L now steps w d
-sends arrived sent w d are L now steps has =
+    (earlier current : Log) (steps : Steps) → HasArrived Switch arrived earlier current steps w d → IsSwitched sent earlier current steps w d
+sends arrived sent w d are earlier current steps has =
     record {
-      stands = still_inside Switch Switch 9 8 9 9 L now steps w w d (nothing_kept w) has.stands (λ late. omega arith) (switched w.mission L now steps w has.stands.inside);
+      stands = still_inside Switch Switch 9 8 9 9 earlier current steps w w d (nothing_kept w) has.stands (λ late. omega arith) (switched w.mission earlier current steps w has.stands.inside);
       sent_are = are ∙ ap (λ (f : Channel → Option ChannelSet). by_channel f) (fun_ext (λ j. ap set_of (has.arrivals j switchboard)));
     }
 
 -- ---- one after the other
 
 -- the final slot is over, these took a content, and this was answered when the cycle was closed
-record IsFilled (closed : Closed) (taken : ChannelSet) (L now : Log) (steps : Steps) (w : WorldValue) (d : Disturbance) : Type 0 where
-  pub stands : IsTaken taken L now steps w d
-  pub closed_is : closed_value closed ≡ closed_of (facts_in w (L ++ now))
+record IsFilled (closed : Closed) (taken : ChannelSet) (earlier current : Log) (steps : Steps) (w : WorldValue) (d : Disturbance) : Type 0 where
+  pub stands : IsTaken taken earlier current steps w d
+  pub closed_is : closed_value closed ≡ closed_of (facts_in w (earlier ++ current))
 
-may_go_on : (closed : Closed) (w : WorldValue) (d : Disturbance) (L now : Log) (steps : Steps) → HasClosed closed L now steps w d → MayTakeContent closed.joined L now steps w d
-may_go_on closed w d L now steps held = record { stands = held.stands; joined_are = ap (λ c. c.joined) held.closed_is }
+may_go_on : (closed : Closed) (w : WorldValue) (d : Disturbance) (earlier current : Log) (steps : Steps) → HasClosed closed earlier current steps w d → MayTakeContent closed.joined earlier current steps w d
+may_go_on closed w d earlier current steps held = record { stands = held.stands; joined_are = ap (λ c. c.joined) held.closed_is }
 
 abbrev pub restored_of : Closed → ChannelSet → List (Option ChannelSet) → SweepResult
 restored_of closed taken sent = record { joined = closed.joined; remaining = closed.remaining; taken = taken; sent = sent }
@@ -112,10 +112,10 @@ module _ {may : List RuleValue → EntryValue → Type 0} (closed : Closed) (w w
   filled : {r : Result ChannelSet Halt} → PassesPart may (MayTakeContent closed.joined) IsTaken r w w1 d d1 b b1 → PassesPart may (HasClosed closed) (IsFilled closed) r w w1 d d1 b b1
   filled one =
       knowing (IsFilled closed)
-      (λ taken L now new steps held has.
+      (λ taken earlier current new steps held has.
       record {
         stands = has;
-        closed_is = closed_later L now new steps Sweep Final 7 7 8 8 w w1 one.mission one.done held.stands.inside has.stands.inside (omega arith) (closed_value closed) held.closed_is;
+        closed_is = closed_later earlier current new steps Sweep Final 7 7 8 8 w w1 one.mission one.done held.stands.inside has.stands.inside (omega arith) (closed_value closed) held.closed_is;
       })
       (from (HasClosed closed) (may_go_on closed w d) one)
 
@@ -124,19 +124,19 @@ module _ {may : List RuleValue → EntryValue → Type 0} (closed : Closed) (w w
         PassesPart may (IsFilled closed taken) (λ sent. IsRestored (restored_of closed taken sent)) r w w1 d d1 b b1
     restored one =
         knowing (λ sent. IsRestored (restored_of closed taken sent))
-        (λ sent L now new steps held has.
+        (λ sent earlier current new steps held has.
         let before = held.stands.stands.inside in
-        let later = closed_later L now new steps Final Switch 8 8 9 9 w w1 one.mission one.done before has.stands.inside (omega arith) (closed_value closed) held.closed_is in
+        let later = closed_later earlier current new steps Final Switch 8 8 9 9 w w1 one.mission one.done before has.stands.inside (omega arith) (closed_value closed) held.closed_is in
         record {
           stands = has.stands;
           joined_are = ap (λ c. c.joined) later;
           remaining_are = ap (λ c. c.remaining) later;
           taken_are = λ q low joins.
-              taken_later L now new steps Final Switch 8 8 9 9 w w1 one.mission one.done before has.stands.inside (omega arith) taken held.stands.taken_are q low joins
-              ∙ whole_takes w1.mission L (now ++ new) steps w1 has.stands.inside q joins;
+              taken_later earlier current new steps Final Switch 8 8 9 9 w w1 one.mission one.done before has.stands.inside (omega arith) taken held.stands.taken_are q low joins
+              ∙ whole_takes w1.mission earlier (current ++ new) steps w1 has.stands.inside q joins;
           sent_are = has.sent_are;
         })
-        (from (IsFilled closed taken) (λ L now steps held. held.stands.stands) one)
+        (from (IsFilled closed taken) (λ earlier current steps held. held.stands.stands) one)
 
 -- ---- the three slots
 
@@ -154,5 +154,5 @@ module _ {may : List RuleValue → EntryValue → Type 0} (targets : ChannelSet)
     pub all_restored : (w3 : WorldValue) (d3 : Disturbance) (b3 : BusValue) (sent : List (Option ChannelSet)) → PassesPart may (IsWithinCycle Final 8 8) IsSwitched (Ok sent) w2 w3 d2 d3 b2 b3 →
         PassesPart may (MayRestore targets) IsRestored (Ok (restored_of closed taken sent)) w w3 d d3 b b3
     all_restored w3 d3 b3 sent third =
-        then_step IsRestored (restored_of closed taken sent) w3 (nothing_kept w3) (λ L now steps held. held)
+        then_step IsRestored (restored_of closed taken sent) w3 (nothing_kept w3) (λ earlier current steps held. held)
         (then first (then (filled closed w1 w2 d1 d2 b1 b2 second) (restored closed w2 w3 d2 d3 b2 b3 taken third)))

@@ -33,7 +33,7 @@ use Rattle.icn_world.proofs.Carried.{AreCharged, sweep_full, few_carried, all_ca
 
 -- some log, steps and disturbance for which the slot may be carried
 abbrev pub MayCarrySome : Slot → List ℕ → WorldValue → Type 0
-MayCarrySome slot to w = (L : Log) × (now : Log) × (steps : Steps) × (d : Disturbance) × MayCarry slot to L now steps w d
+MayCarrySome slot to w = (earlier : Log) × (current : Log) × (steps : Steps) × (d : Disturbance) × MayCarry slot to earlier current steps w d
 
 few_length : {A B : Type 0} (R : A → B → Type 0) (few : ℕ) (xs : List A) (ys : List B) → AllZip R (take few xs) ys → length ys ≤ length xs
 few_length R zero xs [] z = omega arith
@@ -67,11 +67,11 @@ module _ (may : List RuleValue → EntryValue → Type 0) (script after : List R
   SendsFew = (received : AllReceived) → All (StandsForReceived received) w.nodes → SendsFirstOfSlot may script log grown (all_sends w.mission begun.cycle begun.slot to received w.nodes) begun traffic
 
   -- the traffic has just these entries
-  traffic_is : (now : Log) → traffic ≡ record { cycle = begun.cycle; slot = begun.slot; entries = begun.entries ++ now } → traffic ≡ record { cycle = w.done; slot = slot; entries = now }
-  traffic_is now is = is ∙ ap (λ (t : TrafficValue). record { cycle = t.cycle; slot = t.slot; entries = t.entries ++ now }) begins
+  traffic_is : (current : Log) → traffic ≡ record { cycle = begun.cycle; slot = begun.slot; entries = begun.entries ++ current } → traffic ≡ record { cycle = w.done; slot = slot; entries = current }
+  traffic_is current is = is ∙ ap (λ (t : TrafficValue). record { cycle = t.cycle; slot = t.slot; entries = t.entries ++ current }) begins
 
-  entries_are : (now : Log) → traffic ≡ record { cycle = begun.cycle; slot = begun.slot; entries = begun.entries ++ now } → now ≡ traffic.entries
-  entries_are now is = sym (ap (λ (t : TrafficValue). t.entries) (traffic_is now is))
+  entries_are : (current : Log) → traffic ≡ record { cycle = begun.cycle; slot = begun.slot; entries = begun.entries ++ current } → current ≡ traffic.entries
+  entries_are current is = sym (ap (λ (t : TrafficValue). t.entries) (traffic_is current is))
 
   zipped : (sends : List SendValue) → SendsSlot may script log grown sends begun traffic → AllZip IsEntryOf sends traffic.entries
   zipped sends s = subst (λ (es : Log). AllZip IsEntryOf sends es) (entries_are s.now s.traffic) s.sent.each
@@ -132,11 +132,11 @@ module _ (may : List RuleValue → EntryValue → Type 0) (script after : List R
           entries = traffic.entries;
           carries = carries_by (all_sends w.mission begun.cycle begun.slot to (received_in all slot w) w.nodes) same s;
           world = refl;
-          sent = λ L now steps d m.
-              let t = sends (received_in (L ++ now) slot w) (nodes_stand w.mission L now steps slot w m.stands.inside) in (
+          sent = λ earlier current steps d m.
+              let t = sends (received_in (earlier ++ current) slot w) (nodes_stand w.mission earlier current steps slot w m.stands.inside) in (
                 traffic_is t.now t.traffic ∙ ap (λ (es : Log). record { cycle = w.done; slot = slot; entries = es }) (entries_are t.now t.traffic),
-                subst (λ (l : List SendValue). AllZip IsEntryOf l traffic.entries) (all_named (received_in (L ++ now) slot w))
-                    (zipped (all_sends w.mission begun.cycle begun.slot to (received_in (L ++ now) slot w) w.nodes) t),
+                subst (λ (l : List SendValue). AllZip IsEntryOf l traffic.entries) (all_named (received_in (earlier ++ current) slot w))
+                    (zipped (all_sends w.mission begun.cycle begun.slot to (received_in (earlier ++ current) slot w) w.nodes) t),
               );
         }
 
@@ -148,11 +148,11 @@ module _ (may : List RuleValue → EntryValue → Type 0) (script after : List R
           entries = traffic.entries;
           carries = carries_by (take s.few (all_sends w.mission begun.cycle begun.slot to (received_in all slot w) w.nodes)) same s.sends_few;
           world = refl;
-          sent = λ L now steps d m.
-              let t = sends (received_in (L ++ now) slot w) (nodes_stand w.mission L now steps slot w m.stands.inside) in (
+          sent = λ earlier current steps d m.
+              let t = sends (received_in (earlier ++ current) slot w) (nodes_stand w.mission earlier current steps slot w m.stands.inside) in (
                 t.few,
-                subst (λ (l : List SendValue). AllZip IsEntryOf l traffic.entries) (named (received_in (L ++ now) slot w) t.few)
-                    (zipped (take t.few (all_sends w.mission begun.cycle begun.slot to (received_in (L ++ now) slot w) w.nodes)) t.sends_few),
+                subst (λ (l : List SendValue). AllZip IsEntryOf l traffic.entries) (named (received_in (earlier ++ current) slot w) t.few)
+                    (zipped (take t.few (all_sends w.mission begun.cycle begun.slot to (received_in (earlier ++ current) slot w) w.nodes)) t.sends_few),
               );
         }
 
@@ -223,10 +223,10 @@ module _ {E : Type 0} (may : List RuleValue → EntryValue → Type 0) (slot : S
         mission = ap (λ (x : WorldValue). x.mission) s.world;
         done = ap (λ (x : WorldValue). x.done) s.world;
         count = ap (λ (x : WorldValue). x.carried) s.world;
-        ends = λ L now steps m.
-            let few = s.sent L now steps d m in
-            subst (λ (x : WorldValue). IsRunFront x.mission L (now ++ s.entries) x.done) (sym s.world)
-            (few_carried slot to L now steps old d m few.0 s.entries few.1);
+        ends = λ earlier current steps m.
+            let few = s.sent earlier current steps d m in
+            subst (λ (x : WorldValue). IsRunFront x.mission earlier (current ++ s.entries) x.done) (sym s.world)
+            (few_carried slot to earlier current steps old d m few.0 s.entries few.1);
       }
 
   module _ (after : Disturbance) (traffic : TrafficValue) (s : HasSent {E = E} may slot to (Ok traffic) old new bus bus_after)
@@ -245,14 +245,14 @@ module _ {E : Type 0} (may : List RuleValue → EntryValue → Type 0) (slot : S
           mission = ap (λ (x : WorldValue). x.mission) s.world;
           done = ap (λ (x : WorldValue). x.done) s.world;
           count = ap (λ (x : WorldValue). x.carried) s.world;
-          ends = λ L now steps m.
-              let sent = s.sent L now steps d m in
-              subst (λ (x : WorldValue). HaltsIn L (now ++ s.entries) steps (record { cycle = cycle; slot = slot; set = set; active = active }) x) (sym s.world)
-              (subst (λ (n : ℕ). HaltsIn L (now ++ s.entries) steps (record { cycle = n; slot = slot; set = set; active = active }) (world_carried (length s.entries) old))
+          ends = λ earlier current steps m.
+              let sent = s.sent earlier current steps d m in
+              subst (λ (x : WorldValue). HaltsIn earlier (current ++ s.entries) steps (record { cycle = cycle; slot = slot; set = set; active = active }) x) (sym s.world)
+              (subst (λ (n : ℕ). HaltsIn earlier (current ++ s.entries) steps (record { cycle = n; slot = slot; set = set; active = active }) (world_carried (length s.entries) old))
               (sym (cycle_is ∙ ap (λ (x : WorldValue). x.done) s.world))
-              (subst (λ (a : ChannelSet). HaltsIn L (now ++ s.entries) steps (record { cycle = old.done; slot = slot; set = set; active = a }) (world_carried (length s.entries) old))
+              (subst (λ (a : ChannelSet). HaltsIn earlier (current ++ s.entries) steps (record { cycle = old.done; slot = slot; set = set; active = a }) (world_carried (length s.entries) old))
               (sym (active_is ∙ ap (λ (x : WorldValue). x.switches) s.world))
-              (stopped slot to L now steps old d m s.entries sent.1 after (charged s.entries sent.0) set
+              (stopped slot to earlier current steps old d m s.entries sent.1 after (charged s.entries sent.0) set
               (set_is ∙ ap (disturbed_by after.active after.charged) same_ledger)
               (ap (limit_reached after.active after.charged) (sym same_ledger) ∙ reached))));
         }
@@ -266,9 +266,9 @@ module _ {E : Type 0} (may : List RuleValue → EntryValue → Type 0) (slot : S
           mission = ap (λ (x : WorldValue). x.mission) s.world;
           done = ap (λ (x : WorldValue). x.done) s.world;
           count = ap (λ (x : WorldValue). x.carried) s.world;
-          ends = λ L now steps m.
-              subst (λ (x : WorldValue). IsRunFront x.mission L (now ++ s.entries) x.done) (sym s.world)
-              (all_carried slot to L now steps old d m s.entries (s.sent L now steps d m).1);
+          ends = λ earlier current steps m.
+              subst (λ (x : WorldValue). IsRunFront x.mission earlier (current ++ s.entries) x.done) (sym s.world)
+              (all_carried slot to earlier current steps old d m s.entries (s.sent earlier current steps d m).1);
         }
 
     -- the run goes on
@@ -282,13 +282,13 @@ module _ {E : Type 0} (may : List RuleValue → EntryValue → Type 0) (slot : S
           mission = ap (λ (x : WorldValue). x.mission) s.world;
           done = ap (λ (x : WorldValue). x.done) s.world;
           count = ap (λ (x : WorldValue). x.carried) s.world;
-          ends = λ L now steps m.
-              let sent = s.sent L now steps d m in
-              subst (λ (x : WorldValue). HasArrived slot got L (now ++ s.entries) steps x after) (sym s.world)
-              (subst (λ (a : ArrivedValue). HasArrived slot a L (now ++ s.entries) steps (world_carried (length s.entries) old) after)
+          ends = λ earlier current steps m.
+              let sent = s.sent earlier current steps d m in
+              subst (λ (x : WorldValue). HasArrived slot got earlier (current ++ s.entries) steps x after) (sym s.world)
+              (subst (λ (a : ArrivedValue). HasArrived slot a earlier (current ++ s.entries) steps (world_carried (length s.entries) old) after)
               (sym (same ∙ read_is ∙ ap (λ (f : FormatValue). record { format = f; traffic = traffic }) (format_is ∙ ap (λ (x : WorldValue). format_of x.mission) s.world)
               ∙ ap (λ (t : TrafficValue). record { format = format_of old.mission; traffic = t }) sent.0))
-              (arrived slot to L now steps old d m s.entries sent.1 after (charged s.entries sent.0)
+              (arrived slot to earlier current steps old d m s.entries sent.1 after (charged s.entries sent.0)
               (ap (limit_reached after.active after.charged) (sym same_ledger) ∙ below)));
         }
 

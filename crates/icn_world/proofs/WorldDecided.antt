@@ -29,14 +29,14 @@ use Rattle.icn_world.proofs.Receiving.{last_stand, last_may_decide, last_decided
 use Rattle.icn_world.proofs.FirstRunning.{removed_is, transfer_is}
 
 -- the world w, in which the last round is carried, and the world x in which it was received
-module _ (w x : WorldValue) (L now : Log) (steps : Steps) (got : Bodies) (inside : InCycle w.mission L now steps Round3 4 3 w)
-    (are : AreArrivals w.mission (L ++ now) w.done Round3 got)
-    (received : x ≡ record w { nodes = nodes_received w.mission (L ++ now) w.done 3 got w.nodes }) where
+module _ (w x : WorldValue) (earlier current : Log) (steps : Steps) (got : Bodies) (inside : InCycle w.mission earlier current steps Round3 4 3 w)
+    (are : AreArrivals w.mission (earlier ++ current) w.done Round3 got)
+    (received : x ≡ record w { nodes = nodes_received w.mission (earlier ++ current) w.done 3 got w.nodes }) where
   abbrev M : MissionValue
   M = w.mission
 
   abbrev all : Log
-  all = L ++ now
+  all = earlier ++ current
 
   abbrev past : Past
   past = cycles_before M all w.done
@@ -63,18 +63,18 @@ module _ (w x : WorldValue) (L now : Log) (steps : Steps) (got : Bodies) (inside
         decided (received_through M past e 4) stand_then
         ∙ at_x (λ N c nodes. map (with_decisions N c (received_through M past e 4)) nodes ≡ nodes_in M all w.done steps Round3 4)
         (last_decided M all w.done steps inside.ranges got are
-        (λ q low up. rounds_carried M L now steps Round3 3 w inside q (active_in M all w.done inside.ranges q low Round3 up)))
+        (λ q low up. rounds_carried M earlier current steps Round3 3 w inside q (active_in M all w.done inside.ranges q low Round3 up)))
 
-    pub decides_world : InCycle M L now steps Round3 4 4 (record x { nodes = left })
+    pub decides_world : InCycle M earlier current steps Round3 4 4 (record x { nodes = left })
     decides_world =
-        subst (λ (y : WorldValue). InCycle M L now steps Round3 4 4 y)
-        (sym (ap (λ (y : WorldValue). record y { nodes = left }) received ∙ handed_world w L now steps Round3 4 3 4 left inside left_is))
-        (enters_slot M L now steps Round3 Round3 4 3 4 w inside)
+        subst (λ (y : WorldValue). InCycle M earlier current steps Round3 4 4 y)
+        (sym (ap (λ (y : WorldValue). record y { nodes = left }) received ∙ handed_world w earlier current steps Round3 4 3 4 left inside left_is))
+        (enters_slot M earlier current steps Round3 Round3 4 3 4 w inside)
 
     -- some channel runs, and is of the mission
     one : (q : Channel) × (has (channels_of M) q ≡ true) × (mode_in e q Round3 ≡ up)
     one =
-        let found = one_runs M L now steps Round3 Round3 4 3 w inside (omega arith) in
+        let found = one_runs M earlier current steps Round3 Round3 4 3 w inside (omega arith) in
         (found.0, below_there M.rules.channels found.0 (active_within M all w.done found.0 (ap (λ (s : ChannelSet). has s found.0) (sym (active-is M all past)) ∙ found.3)), found.2)
 
     pub transfer_then : option_and_then (λ r. transfer_in r.control.sweeping) (lowest_running left) ≡ e.transfer

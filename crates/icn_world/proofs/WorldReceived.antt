@@ -40,23 +40,23 @@ where_false true x y h = absurd cc
 where_false false x y h = refl
 
 -- the world w before a round is received, by the value of which it is known
-module _ (w : WorldValue) (L now : Log) (steps : Steps) (slot : Slot) (some : 1 ≤ round_number slot)
-    (inside : InCycle w.mission L now steps slot (suc (slot_index slot)) (slot_index slot) w)
+module _ (w : WorldValue) (earlier current : Log) (steps : Steps) (slot : Slot) (some : 1 ≤ round_number slot)
+    (inside : InCycle w.mission earlier current steps slot (suc (slot_index slot)) (slot_index slot) w)
     (round : ℕ) (number : round ≡ slot_index slot) (members : ChannelSet) (are : members ≡ w.switches) where
   abbrev M : MissionValue
   M = w.mission
 
   abbrev past : Past
-  past = cycles_before M (L ++ now) w.done
+  past = cycles_before M (earlier ++ current) w.done
 
   abbrev e : Cycle
-  e = cycle_at M (L ++ now) w.done
+  e = cycle_at M (earlier ++ current) w.done
 
   numbered : round ≡ round_number slot
   numbered = number ∙ number_is slot some
 
   active : members ≡ e.active
-  active = are ∙ inside.switches ∙ sym (active-is M (L ++ now) past)
+  active = are ∙ inside.switches ∙ sym (active-is M (earlier ++ current) past)
 
   -- the test is that of the facts
   pub tested : nat_le round (tolerated_faults members + 1) ≡ is_round e (round_number slot)
@@ -67,17 +67,17 @@ module _ (w : WorldValue) (L now : Log) (steps : Steps) (slot : Slot) (some : 1 
       subst (λ (r : ℕ). All (MayReceive r members (received_through M past e r)) w.nodes) (sym numbered)
       (subst (λ (s : ChannelSet). All (MayReceive (round_number slot) s (received_through M past e (round_number slot))) w.nodes) (sym active)
       (subst (λ (nodes : List NodeValue). All (MayReceive (round_number slot) e.active (received_through M past e (round_number slot))) nodes) (sym inside.nodes)
-      (all_may_receive M (L ++ now) w.done steps inside.ranges slot some there)))
+      (all_may_receive M (earlier ++ current) w.done steps inside.ranges slot some there)))
 
   pub nodes_are_received : (got : Bodies) (left : List NodeValue) → is_round e (round_number slot) ≡ true →
       ((received : AllReceived) → All (MayReceive round members received) w.nodes → left ≡ map (with_exchanges round members got received) w.nodes) →
-      left ≡ nodes_received M (L ++ now) w.done (round_number slot) got w.nodes
+      left ≡ nodes_received M (earlier ++ current) w.done (round_number slot) got w.nodes
   nodes_are_received got left there took =
       took (received_through M past e round) (may_be_received there)
       ∙ ap (λ (r : ℕ). map (with_exchanges r members got (received_through M past e r)) w.nodes) numbered
       ∙ ap (λ (s : ChannelSet). map (with_exchanges (round_number slot) s got (received_through M past e (round_number slot))) w.nodes) active
       ∙ where_true (is_round e (round_number slot)) (map (with_exchanges (round_number slot) e.active got (received_through M past e (round_number slot))) w.nodes) w.nodes there
 
-  pub nothing_is_received : (got : Bodies) → is_round e (round_number slot) ≡ false → w.nodes ≡ nodes_received M (L ++ now) w.done (round_number slot) got w.nodes
+  pub nothing_is_received : (got : Bodies) → is_round e (round_number slot) ≡ false → w.nodes ≡ nodes_received M (earlier ++ current) w.done (round_number slot) got w.nodes
   nothing_is_received got none =
       where_false (is_round e (round_number slot)) (map (with_exchanges (round_number slot) e.active got (received_through M past e (round_number slot))) w.nodes) w.nodes none

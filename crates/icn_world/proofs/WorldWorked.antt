@@ -235,7 +235,7 @@ decision_of_tasks M L n steps q =
     }
 
 -- all nodes may work
-pub may_work_by : (old w : WorldValue) → w ≡ old → (L : Log) × (now : Log) × (steps : Steps) × InCycle old.mission L now steps Tasks 5 4 old → All (HasDecision w.mission) w.nodes
+pub may_work_by : (old w : WorldValue) → w ≡ old → (earlier : Log) × (current : Log) × (steps : Steps) × InCycle old.mission earlier current steps Tasks 5 4 old → All (HasDecision w.mission) w.nodes
 may_work_by old w same held =
     let inside : InCycle w.mission held.0 held.1 held.2 Tasks 5 4 w = subst (λ (x : WorldValue). InCycle x.mission held.0 held.1 held.2 Tasks 5 4 x) (sym same) held.3 in
     subst (λ (nodes : List NodeValue). All (HasDecision w.mission) nodes) (sym inside.nodes)
@@ -243,18 +243,18 @@ may_work_by old w same held =
     (λ q small. decision_of_tasks w.mission (held.0 ++ held.1) w.done held.2 q))
 
 -- the world after its nodes have worked
-pub work_by : (old w : WorldValue) (L now : Log) (steps : Steps) (left : List NodeValue) (traces : List TraceValue) → w ≡ old →
-    InCycle old.mission L now steps Tasks 5 4 old → AllZip (WorksOrStays w.mission w.done) w.nodes left → traces ≡ filter_map trace_of left →
-    HasDoneWork (made_by left) traces L now (record w { nodes = left })
-work_by old w L now steps left traces same held each told =
+pub work_by : (old w : WorldValue) (earlier current : Log) (steps : Steps) (left : List NodeValue) (traces : List TraceValue) → w ≡ old →
+    InCycle old.mission earlier current steps Tasks 5 4 old → AllZip (WorksOrStays w.mission w.done) w.nodes left → traces ≡ filter_map trace_of left →
+    HasDoneWork (made_by left) traces earlier current (record w { nodes = left })
+work_by old w earlier current steps left traces same held each told =
     let M = w.mission in
-    let all : Log = L ++ now in
-    let first : InCycle M L now steps Tasks 5 4 w = subst (λ (x : WorldValue). InCycle x.mission L now steps Tasks 5 4 x) (sym same) held in
-    let later : InCycle M L now (made_by left) Tasks 5 4 w = comes_later M L now steps (made_by left) w first in
+    let all : Log = earlier ++ current in
+    let first : InCycle M earlier current steps Tasks 5 4 w = subst (λ (x : WorldValue). InCycle x.mission earlier current steps Tasks 5 4 x) (sym same) held in
+    let later : InCycle M earlier current (made_by left) Tasks 5 4 w = comes_later M earlier current steps (made_by left) w first in
     let zipped : AllZip (WorksOrStays M w.done) (nodes_in M all w.done steps Tasks 4) left =
     subst (λ (nodes : List NodeValue). AllZip (WorksOrStays M w.done) nodes left) first.nodes each in
     record {
-      inside = hands_by w w L now (made_by left) Tasks 5 4 5 left refl later (λ _. all_worked M all w.done steps first.ranges left zipped);
+      inside = hands_by w w earlier current (made_by left) Tasks 5 4 5 left refl later (λ _. all_worked M all w.done steps first.ranges left zipped);
       full = all_full M all w.done steps first.ranges left zipped;
       traces_are = told ∙ all_traced M all w.done steps first.ranges left zipped;
     }

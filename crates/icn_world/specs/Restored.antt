@@ -29,35 +29,35 @@ abbrev pub HaveTaken : ChannelSet → MissionValue → Log → ℕ → Steps →
 HaveTaken taken M L n steps = (q : Channel) → q < 7 → TookContent taken (node_in M L n steps Final 8 q)
 
 -- the vote is over, and the running transfer has these targets
-pub record MayRestore (targets : ChannelSet) (L now : Log) (steps : Steps) (w : WorldValue) (d : Disturbance) : Type 0 where
-  pub stands : IsWithinCycle Vote 6 6 L now steps w d
-  pub targets_are : targets ≡ targets_of (facts_in w (L ++ now)).transfer
+pub record MayRestore (targets : ChannelSet) (earlier current : Log) (steps : Steps) (w : WorldValue) (d : Disturbance) : Type 0 where
+  pub stands : IsWithinCycle Vote 6 6 earlier current steps w d
+  pub targets_are : targets ≡ targets_of (facts_in w (earlier ++ current)).transfer
 
 -- the sweep slot is over, and the cycle is closed
-pub record HasClosed (closed : Closed) (L now : Log) (steps : Steps) (w : WorldValue) (d : Disturbance) : Type 0 where
-  pub stands : IsWithinCycle Sweep 7 7 L now steps w d
-  pub closed_is : closed_value closed ≡ closed_of (facts_in w (L ++ now))
+pub record HasClosed (closed : Closed) (earlier current : Log) (steps : Steps) (w : WorldValue) (d : Disturbance) : Type 0 where
+  pub stands : IsWithinCycle Sweep 7 7 earlier current steps w d
+  pub closed_is : closed_value closed ≡ closed_of (facts_in w (earlier ++ current))
 
 -- the sweep slot is over, and these are declared joined
-pub record MayTakeContent (joined : ChannelSet) (L now : Log) (steps : Steps) (w : WorldValue) (d : Disturbance) : Type 0 where
-  pub stands : IsWithinCycle Sweep 7 7 L now steps w d
-  pub joined_are : joined ≡ (facts_in w (L ++ now)).joined
+pub record MayTakeContent (joined : ChannelSet) (earlier current : Log) (steps : Steps) (w : WorldValue) (d : Disturbance) : Type 0 where
+  pub stands : IsWithinCycle Sweep 7 7 earlier current steps w d
+  pub joined_are : joined ≡ (facts_in w (earlier ++ current)).joined
 
 -- the final slot is over, and these took a content
-pub record IsTaken (taken : ChannelSet) (L now : Log) (steps : Steps) (w : WorldValue) (d : Disturbance) : Type 0 where
-  pub stands : IsWithinCycle Final 8 8 L now steps w d
-  pub taken_are : HaveTaken taken w.mission (L ++ now) w.done steps
+pub record IsTaken (taken : ChannelSet) (earlier current : Log) (steps : Steps) (w : WorldValue) (d : Disturbance) : Type 0 where
+  pub stands : IsWithinCycle Final 8 8 earlier current steps w d
+  pub taken_are : HaveTaken taken w.mission (earlier ++ current) w.done steps
 
 -- the switch slot is over, and these sets were sent to the switchboard
-pub record IsSwitched (sent : List (Option ChannelSet)) (L now : Log) (steps : Steps) (w : WorldValue) (d : Disturbance) : Type 0 where
-  pub stands : IsWithinCycle Switch 9 9 L now steps w d
-  pub sent_are : sent ≡ sets_at w.mission (L ++ now) w.done
+pub record IsSwitched (sent : List (Option ChannelSet)) (earlier current : Log) (steps : Steps) (w : WorldValue) (d : Disturbance) : Type 0 where
+  pub stands : IsWithinCycle Switch 9 9 earlier current steps w d
+  pub sent_are : sent ≡ sets_at w.mission (earlier ++ current) w.done
 
 -- the three slots are over
-pub record IsRestored (r : SweepResult) (L now : Log) (steps : Steps) (w : WorldValue) (d : Disturbance) : Type 0 where
-  pub stands : IsWithinCycle Switch 9 9 L now steps w d
-  pub joined_are : r.joined ≡ (facts_in w (L ++ now)).joined
-  pub remaining_are : r.remaining ≡ remaining_in (facts_in w (L ++ now))
-  pub taken_are : (q : Channel) → q < 7 → is_joining (mode_in (facts_in w (L ++ now)) q Switch) ≡ true →
-      has r.taken q ≡ is_whole q (facts_in w (L ++ now) ∷ past_in w (L ++ now))
-  pub sent_are : r.sent ≡ sets_at w.mission (L ++ now) w.done
+pub record IsRestored (r : SweepResult) (earlier current : Log) (steps : Steps) (w : WorldValue) (d : Disturbance) : Type 0 where
+  pub stands : IsWithinCycle Switch 9 9 earlier current steps w d
+  pub joined_are : r.joined ≡ (facts_in w (earlier ++ current)).joined
+  pub remaining_are : r.remaining ≡ remaining_in (facts_in w (earlier ++ current))
+  pub taken_are : (q : Channel) → q < 7 → is_joining (mode_in (facts_in w (earlier ++ current)) q Switch) ≡ true →
+      has r.taken q ≡ is_whole q (facts_in w (earlier ++ current) ∷ past_in w (earlier ++ current))
+  pub sent_are : r.sent ≡ sets_at w.mission (earlier ++ current) w.done

@@ -21,16 +21,16 @@ received_in all slot w q = received_through w.mission (past_in w all) (facts_in 
 
 -- one entry for each frame that is sent in the slot, and for the first few of them
 abbrev pub AreAllSent : Log → Log → Slot → List ℕ → WorldValue → Log → Type 0
-AreAllSent L now slot to w new = AllZip IsEntryOf (all_sends w.mission w.done slot to (received_in (L ++ now) slot w) w.nodes) new
+AreAllSent earlier current slot to w new = AllZip IsEntryOf (all_sends w.mission w.done slot to (received_in (earlier ++ current) slot w) w.nodes) new
 
 abbrev pub AreFewSentBy : Log → Log → Slot → List ℕ → ℕ → WorldValue → Log → Type 0
-AreFewSentBy L now slot to few w new = AllZip IsEntryOf (take few (all_sends w.mission w.done slot to (received_in (L ++ now) slot w) w.nodes)) new
+AreFewSentBy earlier current slot to few w new = AllZip IsEntryOf (take few (all_sends w.mission w.done slot to (received_in (earlier ++ current) slot w) w.nodes)) new
 
 -- by the answer, the entries are those of all frames, and those of the traffic, or those of the first few
 abbrev pub AreSentBy : {E : Type 0} → Slot → List ℕ → Log → Result TrafficValue E → WorldValue → Log → Log → Type 0
-AreSentBy slot to entries (Ok traffic) w L now =
-    (traffic ≡ record { cycle = w.done; slot = slot; entries = entries }) × AreAllSent L now slot to w entries
-AreSentBy slot to entries (Err error) w L now = (few : ℕ) × AreFewSentBy L now slot to few w entries
+AreSentBy slot to entries (Ok traffic) w earlier current =
+    (traffic ≡ record { cycle = w.done; slot = slot; entries = entries }) × AreAllSent earlier current slot to w entries
+AreSentBy slot to entries (Err error) w earlier current = (few : ℕ) × AreFewSentBy earlier current slot to few w entries
 
 -- These entries were carried and counted.
 pub record HasSent {E : Type 0} (may : List RuleValue → EntryValue → Type 0) (slot : Slot) (to : List ℕ) (result : Result TrafficValue E)
@@ -38,4 +38,4 @@ pub record HasSent {E : Type 0} (may : List RuleValue → EntryValue → Type 0)
   pub entries : Log
   pub carries : Carries may bus bus_after entries
   pub world : new ≡ world_carried (length entries) old
-  pub sent : (L now : Log) (steps : Steps) (d : Disturbance) → MayCarry slot to L now steps old d → AreSentBy slot to entries result old L now
+  pub sent : (earlier current : Log) (steps : Steps) (d : Disturbance) → MayCarry slot to earlier current steps old d → AreSentBy slot to entries result old earlier current

@@ -18,10 +18,10 @@ use Rattle.icn_world.specs.declared.rounds.Reconfiguration.{Reconfiguration}
 use Rattle.icn_world.specs.Stages.{IsWithinCycle}
 
 -- the slots before are done, and this one may be entered
-pub record MayEnter (slot : Slot) (L now : Log) (steps : Steps) (w : WorldValue) (d : Disturbance) : Type 0 where
+pub record MayEnter (slot : Slot) (earlier current : Log) (steps : Steps) (w : WorldValue) (d : Disturbance) : Type 0 where
   pub before : Slot
   pub soon : up_to before slot ≡ true
-  pub stands : IsWithinCycle before (slot_index slot) (slot_index slot) L now steps w d
+  pub stands : IsWithinCycle before (slot_index slot) (slot_index slot) earlier current steps w d
 
 -- its frames go to the active channels
 abbrev pub IsToActive : Slot → Type 0
@@ -39,12 +39,12 @@ pub record AreOfCycle (settled : Reconfiguration) (M : MissionValue) (L : Log) (
   pub transfer : transfer_of_pair settled.transfer ≡ (cycle_at M L n).transfer
 
 -- the rounds are over, and the running channels have decided
-pub record IsDecided (settled : Reconfiguration) (L now : Log) (steps : Steps) (w : WorldValue) (d : Disturbance) : Type 0 where
-  pub stands : IsWithinCycle Round3 4 4 L now steps w d
-  pub settled_are : AreOfCycle settled w.mission (L ++ now) w.done
+pub record IsDecided (settled : Reconfiguration) (earlier current : Log) (steps : Steps) (w : WorldValue) (d : Disturbance) : Type 0 where
+  pub stands : IsWithinCycle Round3 4 4 earlier current steps w d
+  pub settled_are : AreOfCycle settled w.mission (earlier ++ current) w.done
 
 -- and the tasks slot is entered, whose work is next
-pub record IsSettled (settled : Reconfiguration) (L now : Log) (steps : Steps) (w : WorldValue) (d : Disturbance) : Type 0 where
-  pub stands : IsWithinCycle Tasks 5 4 L now steps w d
-  pub removed : settled.removed ≡ (facts_in w (L ++ now)).removed
-  pub transfer : transfer_of_pair settled.transfer ≡ (facts_in w (L ++ now)).transfer
+pub record IsSettled (settled : Reconfiguration) (earlier current : Log) (steps : Steps) (w : WorldValue) (d : Disturbance) : Type 0 where
+  pub stands : IsWithinCycle Tasks 5 4 earlier current steps w d
+  pub removed : settled.removed ≡ (facts_in w (earlier ++ current)).removed
+  pub transfer : transfer_of_pair settled.transfer ≡ (facts_in w (earlier ++ current)).transfer

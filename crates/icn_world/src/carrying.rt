@@ -58,7 +58,7 @@ impl World {
         slot: Slot,
         to: Receivers,
     ) -> Result<Traffic, AllocError>
-        requires { (L : Log) × (now : Log) × (steps : Steps) × (d : DisturbanceValue) × MayCarry slot (receiver_numbers to) L now steps self.old d }
+        requires { (earlier : Log) × (current : Log) × (steps : Steps) × (d : DisturbanceValue) × MayCarry slot (receiver_numbers to) earlier current steps self.old d }
         ensures { HasSent B.may slot (receiver_numbers to) result self.old self.new
             (B.seen bus.old) (B.seen bus.new) }
     {
@@ -80,7 +80,7 @@ impl World {
         to: Receivers,
         disturbance: &mut Disturbance,
     ) -> Result<Delivered, Halt>
-        requires { (L : Log) × (now : Log) × (steps : Steps) × MayCarry slot (receiver_numbers to) L now steps self.old disturbance.old }
+        requires { (earlier : Log) × (current : Log) × (steps : Steps) × MayCarry slot (receiver_numbers to) earlier current steps self.old disturbance.old }
         ensures { PassesPart B.may (MayCarry slot (receiver_numbers to)) (HasArrived slot) result self.old self.new disturbance.old disturbance.new
             (B.seen bus.old) (B.seen bus.new) }
     {

@@ -59,13 +59,13 @@ impl World {
     // Hands over the sweep slot: the joining channels take the copies, and the running ones close the cycle. Answers what
     // the first of these answers.
     fn close<A: Arrived>(&mut self, alloc: Global, arrived: &A) -> Result<Closed, AllocError>
-        requires { (L : Log) × (now : Log) × (steps : Steps) × InCycle self.old.mission L now steps Sweep 7 6 self.old }
+        requires { (earlier : Log) × (current : Log) × (steps : Steps) × InCycle self.old.mission earlier current steps Sweep 7 6 self.old }
         ensures kept { IsWorldKept self.old self.new }
-        ensures state { (L now : Log) (steps : Steps) → InCycle self.old.mission L now steps Sweep 7 6 self.old →
-            AreArrivals self.old.mission (L ++ now) self.old.done Sweep (A.got arrived.now) →
-            OnOk result (InCycle self.old.mission L now steps Sweep 7 7 self.new) }
-        ensures closed { (L now : Log) (steps : Steps) → InCycle self.old.mission L now steps Sweep 7 6 self.old →
-            IfOk result (λ closed. closed_value closed ≡ closed_of (cycle_at self.old.mission (L ++ now) self.old.done)) }
+        ensures state { (earlier current : Log) (steps : Steps) → InCycle self.old.mission earlier current steps Sweep 7 6 self.old →
+            AreArrivals self.old.mission (earlier ++ current) self.old.done Sweep (A.got arrived.now) →
+            OnOk result (InCycle self.old.mission earlier current steps Sweep 7 7 self.new) }
+        ensures closed { (earlier current : Log) (steps : Steps) → InCycle self.old.mission earlier current steps Sweep 7 6 self.old →
+            IfOk result (λ closed. closed_value closed ≡ closed_of (cycle_at self.old.mission (earlier ++ current) self.old.done)) }
     {
         let members = self.switchboard.on();
         self.nodes.take_sweep(alloc, self.done, members, arrived)?;
@@ -86,7 +86,7 @@ impl World {
         disturbance: &mut Disturbance,
         targets: ChanSet,
     ) -> Result<Closed, Halt>
-        requires { (L : Log) × (now : Log) × (steps : Steps) × MayRestore targets L now steps self.old disturbance.old }
+        requires { (earlier : Log) × (current : Log) × (steps : Steps) × MayRestore targets earlier current steps self.old disturbance.old }
         ensures { PassesPart B.may (MayRestore targets) HasClosed result self.old self.new disturbance.old disturbance.new
             (B.seen bus.old) (B.seen bus.new) }
     {
@@ -105,7 +105,7 @@ impl World {
         disturbance: &mut Disturbance,
         joined: ChanSet,
     ) -> Result<ChanSet, Halt>
-        requires { (L : Log) × (now : Log) × (steps : Steps) × MayTakeContent joined L now steps self.old disturbance.old }
+        requires { (earlier : Log) × (current : Log) × (steps : Steps) × MayTakeContent joined earlier current steps self.old disturbance.old }
         ensures { PassesPart B.may (MayTakeContent joined) IsTaken result self.old self.new disturbance.old disturbance.new
             (B.seen bus.old) (B.seen bus.new) }
     {
@@ -124,7 +124,7 @@ impl World {
         bus: &mut B,
         disturbance: &mut Disturbance,
     ) -> Result<[Option<ChanSet>; 7], Halt>
-        requires { (L : Log) × (now : Log) × (steps : Steps) × IsWithinCycle Final 8 8 L now steps self.old disturbance.old }
+        requires { (earlier : Log) × (current : Log) × (steps : Steps) × IsWithinCycle Final 8 8 earlier current steps self.old disturbance.old }
         ensures { PassesPart B.may (IsWithinCycle Final 8 8) IsSwitched result self.old self.new disturbance.old disturbance.new
             (B.seen bus.old) (B.seen bus.new) }
     {
@@ -148,7 +148,7 @@ impl World {
         disturbance: &mut Disturbance,
         targets: ChanSet,
     ) -> Result<SweepResult, Halt>
-        requires { (L : Log) × (now : Log) × (steps : Steps) × MayRestore targets L now steps self.old disturbance.old }
+        requires { (earlier : Log) × (current : Log) × (steps : Steps) × MayRestore targets earlier current steps self.old disturbance.old }
         ensures { PassesPart B.may (MayRestore targets) IsRestored result self.old self.new disturbance.old disturbance.new
             (B.seen bus.old) (B.seen bus.new) }
     {

@@ -46,7 +46,7 @@ impl World {
     ) -> Result<Delivered, Halt>
         requires on { on_bus slot ≡ true }
         requires among { IsToActive slot }
-        requires stands { (L : Log) × (now : Log) × (steps : Steps) × IsWithinCycle slot (slot_index slot) (slot_index slot) L now steps self.old disturbance.old }
+        requires stands { (earlier : Log) × (current : Log) × (steps : Steps) × IsWithinCycle slot (slot_index slot) (slot_index slot) earlier current steps self.old disturbance.old }
         ensures { PassesPart B.may (IsWithinCycle slot (slot_index slot) (slot_index slot)) (HasArrived slot) result self.old self.new disturbance.old disturbance.new
             (B.seen bus.old) (B.seen bus.new) }
     {
@@ -64,7 +64,7 @@ impl World {
     ) -> Result<Delivered, Halt>
         requires on { on_bus slot ≡ true }
         requires among { IsToActive slot }
-        requires stands { (L : Log) × (now : Log) × (steps : Steps) × MayEnter slot L now steps self.old disturbance.old }
+        requires stands { (earlier : Log) × (current : Log) × (steps : Steps) × MayEnter slot earlier current steps self.old disturbance.old }
         ensures { PassesPart B.may (MayEnter slot) (HasArrived slot) result self.old self.new disturbance.old disturbance.new
             (B.seen bus.old) (B.seen bus.new) }
     {
@@ -79,7 +79,7 @@ impl World {
         bus: &mut B,
         disturbance: &mut Disturbance,
     ) -> Result<(), Halt>
-        requires { (L : Log) × (now : Log) × (steps : Steps) × IsAtStart L now steps self.old disturbance.old }
+        requires { (earlier : Log) × (current : Log) × (steps : Steps) × IsAtStart earlier current steps self.old disturbance.old }
         ensures { PassesPart B.may IsAtStart (λ _. IsWithinCycle Request 1 1) result self.old self.new disturbance.old disturbance.new
             (B.seen bus.old) (B.seen bus.new) }
     {
@@ -92,12 +92,12 @@ impl World {
     // The running channels receive what arrived in the slot of a round, where there is such a round.
     fn receive(&mut self, arrived: &Delivered, slot: Slot)
         requires round { 1 ≤ round_number slot }
-        requires stands { (L : Log) × (now : Log) × (steps : Steps) × InCycle self.old.mission L now steps slot (suc (slot_index slot)) (slot_index slot) self.old
-            × AreArrivals self.old.mission (L ++ now) self.old.done slot (got_of arrived.now) }
+        requires stands { (earlier : Log) × (current : Log) × (steps : Steps) × InCycle self.old.mission earlier current steps slot (suc (slot_index slot)) (slot_index slot) self.old
+            × AreArrivals self.old.mission (earlier ++ current) self.old.done slot (got_of arrived.now) }
         ensures kept { IsWorldKept self.old self.new }
-        ensures state { (L now : Log) (steps : Steps) → InCycle self.old.mission L now steps slot (suc (slot_index slot)) (slot_index slot) self.old →
-            AreArrivals self.old.mission (L ++ now) self.old.done slot (got_of arrived.now) →
-            self.new ≡ record self.old { nodes = nodes_received self.old.mission (L ++ now) self.old.done (round_number slot) (got_of arrived.now) self.old.nodes } }
+        ensures state { (earlier current : Log) (steps : Steps) → InCycle self.old.mission earlier current steps slot (suc (slot_index slot)) (slot_index slot) self.old →
+            AreArrivals self.old.mission (earlier ++ current) self.old.done slot (got_of arrived.now) →
+            self.new ≡ record self.old { nodes = nodes_received self.old.mission (earlier ++ current) self.old.done (round_number slot) (got_of arrived.now) self.old.nodes } }
     {
         arrived.fits();
         let members = self.switchboard.on();
@@ -117,7 +117,7 @@ impl World {
     ) -> Result<(), Halt>
         requires low { 1 ≤ round_number slot }
         requires high { round_number slot ≤ 2 }
-        requires stands { (L : Log) × (now : Log) × (steps : Steps) × MayEnter slot L now steps self.old disturbance.old }
+        requires stands { (earlier : Log) × (current : Log) × (steps : Steps) × MayEnter slot earlier current steps self.old disturbance.old }
         ensures { PassesPart B.may (MayEnter slot) (λ _. IsWithinCycle slot (suc (slot_index slot)) (suc (slot_index slot))) result self.old self.new disturbance.old disturbance.new
             (B.seen bus.old) (B.seen bus.new) }
     {
@@ -128,15 +128,15 @@ impl World {
 
     // The running channels decide by what they received, in the last round too. Answers what the first of them settled.
     fn decide(&mut self, arrived: &Delivered) -> Reconfiguration
-        requires { (L : Log) × (now : Log) × (steps : Steps) × InCycle self.old.mission L now steps Round3 4 3 self.old
-            × AreArrivals self.old.mission (L ++ now) self.old.done Round3 (got_of arrived.now) }
+        requires { (earlier : Log) × (current : Log) × (steps : Steps) × InCycle self.old.mission earlier current steps Round3 4 3 self.old
+            × AreArrivals self.old.mission (earlier ++ current) self.old.done Round3 (got_of arrived.now) }
         ensures kept { IsWorldKept self.old self.new }
-        ensures state { (L now : Log) (steps : Steps) → InCycle self.old.mission L now steps Round3 4 3 self.old →
-            AreArrivals self.old.mission (L ++ now) self.old.done Round3 (got_of arrived.now) →
-            InCycle self.old.mission L now steps Round3 4 4 self.new }
-        ensures settled { (L now : Log) (steps : Steps) → InCycle self.old.mission L now steps Round3 4 3 self.old →
-            AreArrivals self.old.mission (L ++ now) self.old.done Round3 (got_of arrived.now) →
-            AreOfCycle result self.old.mission (L ++ now) self.old.done }
+        ensures state { (earlier current : Log) (steps : Steps) → InCycle self.old.mission earlier current steps Round3 4 3 self.old →
+            AreArrivals self.old.mission (earlier ++ current) self.old.done Round3 (got_of arrived.now) →
+            InCycle self.old.mission earlier current steps Round3 4 4 self.new }
+        ensures settled { (earlier current : Log) (steps : Steps) → InCycle self.old.mission earlier current steps Round3 4 3 self.old →
+            AreArrivals self.old.mission (earlier ++ current) self.old.done Round3 (got_of arrived.now) →
+            AreOfCycle result self.old.mission (earlier ++ current) self.old.done }
     {
         self.receive(arrived, Slot::Round3);
         let removed = self.nodes.decide(&self.mission, self.done).unwrap();
@@ -153,7 +153,7 @@ impl World {
         bus: &mut B,
         disturbance: &mut Disturbance,
     ) -> Result<Reconfiguration, Halt>
-        requires { (L : Log) × (now : Log) × (steps : Steps) × MayEnter Round3 L now steps self.old disturbance.old }
+        requires { (earlier : Log) × (current : Log) × (steps : Steps) × MayEnter Round3 earlier current steps self.old disturbance.old }
         ensures { PassesPart B.may (MayEnter Round3) IsDecided result self.old self.new disturbance.old disturbance.new
             (B.seen bus.old) (B.seen bus.new) }
     {
@@ -168,7 +168,7 @@ impl World {
         bus: &mut B,
         disturbance: &mut Disturbance,
     ) -> Result<Reconfiguration, Halt>
-        requires { (L : Log) × (now : Log) × (steps : Steps) × IsAtStart L now steps self.old disturbance.old }
+        requires { (earlier : Log) × (current : Log) × (steps : Steps) × IsAtStart earlier current steps self.old disturbance.old }
         ensures { PassesPart B.may IsAtStart IsSettled result self.old self.new disturbance.old disturbance.new
             (B.seen bus.old) (B.seen bus.new) }
     {

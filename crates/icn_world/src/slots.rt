@@ -42,9 +42,9 @@ impl World {
     // Enters a slot: its crashes.
     pub(crate) fn enter(&mut self, slot: Slot)
         ensures kept { IsWorldKept self.old self.new }
-        ensures state { (L now : Log) (steps : Steps) (before : SlotValue) (carried handed : ℕ) → up_to before slot ≡ true → on_bus slot ≡ true →
-            InCycle self.old.mission L now steps before carried handed self.old →
-            InCycle self.old.mission L now steps slot carried handed self.new }
+        ensures state { (earlier current : Log) (steps : Steps) (before : SlotValue) (carried handed : ℕ) → up_to before slot ≡ true → on_bus slot ≡ true →
+            InCycle self.old.mission earlier current steps before carried handed self.old →
+            InCycle self.old.mission earlier current steps slot carried handed self.new }
     {
         let down = self
             .ledger
@@ -55,9 +55,9 @@ impl World {
     // Hands over the request slot.
     pub(crate) fn hear<A: Arrived>(&mut self, arrived: &A)
         ensures kept { IsWorldKept self.old self.new }
-        ensures state { (L now : Log) (steps : Steps) → InCycle self.old.mission L now steps Request 1 0 self.old →
-            AreArrivals self.old.mission (L ++ now) self.old.done Request (A.got arrived.now) →
-            InCycle self.old.mission L now steps Request 1 1 self.new }
+        ensures state { (earlier current : Log) (steps : Steps) → InCycle self.old.mission earlier current steps Request 1 0 self.old →
+            AreArrivals self.old.mission (earlier ++ current) self.old.done Request (A.got arrived.now) →
+            InCycle self.old.mission earlier current steps Request 1 1 self.new }
     {
         self.nodes.hear(arrived);
     }
@@ -68,16 +68,16 @@ impl World {
         alloc: Global,
         arrived: &A,
     ) -> Result<Lines, AllocError>
-        requires { (L : Log) × (now : Log) × (steps : Steps) × InCycle self.old.mission L now steps Vote 6 5 self.old }
+        requires { (earlier : Log) × (current : Log) × (steps : Steps) × InCycle self.old.mission earlier current steps Vote 6 5 self.old }
         ensures kept { IsWorldKept self.old self.new }
-        ensures state { (L now : Log) (steps : Steps) → InCycle self.old.mission L now steps Vote 6 5 self.old →
-            AreArrivals self.old.mission (L ++ now) self.old.done Vote (A.got arrived.now) →
-            HaveWorked self.old.mission (L ++ now) self.old.done →
-            OnOk result (InCycle self.old.mission L now steps Vote 6 6 self.new) }
-        ensures lines { (L now : Log) (steps : Steps) → InCycle self.old.mission L now steps Vote 6 5 self.old →
-            AreArrivals self.old.mission (L ++ now) self.old.done Vote (A.got arrived.now) →
-            HaveWorked self.old.mission (L ++ now) self.old.done →
-            IfOk result (λ lines. AreLinesOf self.old.mission (cycle_at self.old.mission (L ++ now) self.old.done) Vote lines.items) }
+        ensures state { (earlier current : Log) (steps : Steps) → InCycle self.old.mission earlier current steps Vote 6 5 self.old →
+            AreArrivals self.old.mission (earlier ++ current) self.old.done Vote (A.got arrived.now) →
+            HaveWorked self.old.mission (earlier ++ current) self.old.done →
+            OnOk result (InCycle self.old.mission earlier current steps Vote 6 6 self.new) }
+        ensures lines { (earlier current : Log) (steps : Steps) → InCycle self.old.mission earlier current steps Vote 6 5 self.old →
+            AreArrivals self.old.mission (earlier ++ current) self.old.done Vote (A.got arrived.now) →
+            HaveWorked self.old.mission (earlier ++ current) self.old.done →
+            IfOk result (λ lines. AreLinesOf self.old.mission (cycle_at self.old.mission (earlier ++ current) self.old.done) Vote lines.items) }
     {
         let lines = self.nodes.take_votes(alloc, &self.mission, arrived)?;
         Ok(lines)
@@ -91,12 +91,12 @@ impl World {
     ) -> Result<ChanSet, AllocError>
         requires { AreInRange (A.got arrived.now) }
         ensures kept { IsWorldKept self.old self.new }
-        ensures state { (L now : Log) (steps : Steps) → InCycle self.old.mission L now steps Final 8 7 self.old →
-            AreArrivals self.old.mission (L ++ now) self.old.done Final (A.got arrived.now) →
-            OnOk result (InCycle self.old.mission L now steps Final 8 8 self.new) }
-        ensures taken { (L now : Log) (steps : Steps) → InCycle self.old.mission L now steps Final 8 7 self.old →
-            AreArrivals self.old.mission (L ++ now) self.old.done Final (A.got arrived.now) →
-            IfOk result (λ taken. HaveTaken taken self.old.mission (L ++ now) self.old.done steps) }
+        ensures state { (earlier current : Log) (steps : Steps) → InCycle self.old.mission earlier current steps Final 8 7 self.old →
+            AreArrivals self.old.mission (earlier ++ current) self.old.done Final (A.got arrived.now) →
+            OnOk result (InCycle self.old.mission earlier current steps Final 8 8 self.new) }
+        ensures taken { (earlier current : Log) (steps : Steps) → InCycle self.old.mission earlier current steps Final 8 7 self.old →
+            AreArrivals self.old.mission (earlier ++ current) self.old.done Final (A.got arrived.now) →
+            IfOk result (λ taken. HaveTaken taken self.old.mission (earlier ++ current) self.old.done steps) }
     {
         let members = self.switchboard.on();
         let taken = self.nodes.take_final(alloc, members, arrived)?;

@@ -22,7 +22,7 @@ impl World {
         bus: &mut B,
         disturbance: &mut Disturbance,
     ) -> Result<Lines, Halt>
-        requires { (L : Log) × (now : Log) × (steps : Steps) × IsWithinCycle Tasks 5 5 L now steps self.old disturbance.old }
+        requires { (earlier : Log) × (current : Log) × (steps : Steps) × IsWithinCycle Tasks 5 5 earlier current steps self.old disturbance.old }
         ensures { PassesPart B.may (IsWithinCycle Tasks 5 5) HasVoted result self.old self.new disturbance.old disturbance.new
             (B.seen bus.old) (B.seen bus.new) }
     {

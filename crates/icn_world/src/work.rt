@@ -24,10 +24,10 @@ impl World {
         gate: &G,
         natives: &C,
     ) -> Result<Traces, AllocError>
-        requires { (L : Log) × (now : Log) × (steps : Steps) × InCycle self.old.mission L now steps Tasks 5 4 self.old }
+        requires { (earlier : Log) × (current : Log) × (steps : Steps) × InCycle self.old.mission earlier current steps Tasks 5 4 self.old }
         ensures kept { IsWorldKept self.old self.new }
-        ensures worked { IfOk result (λ traces. (made : Steps) × ((L now : Log) (steps : Steps) →
-            InCycle self.old.mission L now steps Tasks 5 4 self.old → HasDoneWork made traces.items L now self.new)) }
+        ensures worked { IfOk result (λ traces. (made : Steps) × ((earlier current : Log) (steps : Steps) →
+            InCycle self.old.mission earlier current steps Tasks 5 4 self.old → HasDoneWork made traces.items earlier current self.new)) }
     {
         let traces = self
             .nodes

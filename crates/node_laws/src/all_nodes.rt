@@ -74,7 +74,7 @@ pub fn nodes_take_finals()
 pub fn nodes_are_switched()
     ensures handed { (M : MissionValue) (L : Log) (n : ℕ) (steps : Steps) → IsMission M →
         nodes_in M L n steps Switch 8 ≡ nodes_in M L n steps Switch 9 }
-    ensures after { (M : MissionValue) (L now : Log) (n : ℕ) (steps : Steps) (carried : ℕ) → IsMission M →
-        map (ended_on (active_set M (cycle_at M (L ++ now) n ∷ cycles_before M (L ++ now) n))) (nodes_in M (L ++ now) n steps Switch 9)
-        ≡ (world_after M L now steps n carried).nodes }
+    ensures after { (M : MissionValue) (earlier current : Log) (n : ℕ) (steps : Steps) (carried : ℕ) → IsMission M →
+        map (ended_on (active_set M (cycle_at M (earlier ++ current) n ∷ cycles_before M (earlier ++ current) n))) (nodes_in M (earlier ++ current) n steps Switch 9)
+        ≡ (world_after M earlier current steps n carried).nodes }
 {}

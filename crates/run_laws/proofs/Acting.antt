@@ -307,40 +307,40 @@ halts_nowhere n e none slot on = by (find (halts n e) every_slot) refl none
     by None is h = not_found (halts n e) every_slot slot (every_one slot on) is
 
 module _ (may : List RuleValue → EntryValue → Type 0) (M : MissionValue) (a : ActuatorValue) (start bus mid after : BusValue) (w new : WorldValue) (gate gate_after : GateValue) (F K : Log) (histories : Histories)
-    (part : RecordValue) (at : IsActing may M a start w bus gate F K histories) (now : Log) (steps : Steps)
-    (between : IsBetween may M start new mid (F ++ now) (K ++ now) (steps ∷ histories)) (done : new.done ≡ suc w.done)
-    (made : AreMadeBy M steps (cycles_before M (K ++ now) w.done) (cycle_at M (K ++ now) w.done) now)
-    (full : AreFull M (cycles_before M (K ++ now) w.done) (cycle_at M (K ++ now) w.done) steps)
-    (stay : cycles_before M (K ++ now) w.done ≡ cycles_before M K w.done)
-    (record_is : shown M.rules.channels M.width (length M.outputs) part ≡ cycle_record M steps w.done (cycle_at M (K ++ now) w.done))
+    (part : RecordValue) (at : IsActing may M a start w bus gate F K histories) (current : Log) (steps : Steps)
+    (between : IsBetween may M start new mid (F ++ current) (K ++ current) (steps ∷ histories)) (done : new.done ≡ suc w.done)
+    (made : AreMadeBy M steps (cycles_before M (K ++ current) w.done) (cycle_at M (K ++ current) w.done) current)
+    (full : AreFull M (cycles_before M (K ++ current) w.done) (cycle_at M (K ++ current) w.done) steps)
+    (stay : cycles_before M (K ++ current) w.done ≡ cycles_before M K w.done)
+    (record_is : shown M.rules.channels M.width (length M.outputs) part ≡ cycle_record M steps w.done (cycle_at M (K ++ current) w.done))
     (lines : List LineValue) (outs : Log) (sent : AreLinesSent may mid.script mid.log after.log M.rules.version (length gate.words) part.cycle lines outs)
     (script : after.script ≡ mid.script) where
   abbrev n : ℕ
   n = w.done
 
   abbrev past : Past
-  past = cycles_before M (K ++ now) n
+  past = cycles_before M (K ++ current) n
 
   abbrev e : Cycle
-  e = cycle_at M (K ++ now) n
+  e = cycle_at M (K ++ current) n
 
   abbrev grown : Log
-  grown = (F ++ now) ++ outs
+  grown = (F ++ current) ++ outs
 
   abbrev words : List ℤ
   words = output_words M e.ideal_context
 
   size : length past ≡ n
-  size = length-cycles_before M (K ++ now) n
+  size = length-cycles_before M (K ++ current) n
 
   mission : IsMission M
   mission = subst IsMission between.mission between.stands.mission
 
   set : is_set e.active ≡ true
-  set = ap is_set (active-is M (K ++ now) past) ∙ active_is_set M past mission
+  set = ap is_set (active-is M (K ++ current) past) ∙ active_is_set M past mission
 
-  ran : HasRunCycles M (suc n) (K ++ now) (steps ∷ histories)
-  ran = subst (λ k. HasRunCycles M k (K ++ now) (steps ∷ histories)) done (ran_cycles may start mid new (F ++ now) (K ++ now) (steps ∷ histories) M between)
+  ran : HasRunCycles M (suc n) (K ++ current) (steps ∷ histories)
+  ran = subst (λ k. HasRunCycles M k (K ++ current) (steps ∷ histories)) done (ran_cycles may start mid new (F ++ current) (K ++ current) (steps ∷ histories) M between)
 
   agrees : Agrees M past e
   agrees = ran.sound.cycles.0.agrees
@@ -369,22 +369,22 @@ module _ (may : List RuleValue → EntryValue → Type 0) (M : MissionValue) (a 
   outs_now : AllByRecursion (λ (y : EntryValue). y.cycle ≡ n) outs
   outs_now = lines_of_cycle M.rules.version (length words) part.cycle n cycle_is lines outs due_lines
 
-  now_now : AllByRecursion (λ (y : EntryValue). y.cycle ≡ n) now
-  now_now = made_now M steps past e n (cycle_carries n e) now (subst (λ c. AllZip (λ carry entry. IsMadeBy M past e (steps_of steps carry.from) carry entry) (cycle_carries c e) now) size made) (all_of_cycle n e)
+  now_now : AllByRecursion (λ (y : EntryValue). y.cycle ≡ n) current
+  now_now = made_now M steps past e n (cycle_carries n e) current (subst (λ c. AllZip (λ carry entry. IsMadeBy M past e (steps_of steps carry.from) carry entry) (cycle_carries c e) current) size made) (all_of_cycle n e)
 
-  now_apart : AllByRecursion (is_apart n) now
-  now_apart = made_apart M steps past e n (cycle_carries (length past) e) now made (all_on_bus (length past) e)
+  now_apart : AllByRecursion (is_apart n) current
+  now_apart = made_apart M steps past e n (cycle_carries (length past) e) current made (all_on_bus (length past) e)
 
-  before_apart : AllByRecursion (is_apart n) (F ++ now)
-  before_apart = all_both _ F now (earlier_apart n F at.earlier) now_apart
+  before_apart : AllByRecursion (is_apart n) (F ++ current)
+  before_apart = all_both _ F current (earlier_apart n F at.earlier) now_apart
 
-  pub fresh : AreFrom n (now ++ outs)
-  fresh = from_now_on n (now ++ outs) (all_both _ now outs now_now outs_now)
+  pub fresh : AreFrom n (current ++ outs)
+  fresh = from_now_on n (current ++ outs) (all_both _ current outs now_now outs_now)
 
-  left : IsBetween may M start new after grown (K ++ now) (steps ∷ histories)
-  left = outputs_leave may M start new mid after (F ++ now) (K ++ now) outs (steps ∷ histories) between (record { log = sent.grew; script = script; each = sent.allowed }) off
+  left : IsBetween may M start new after grown (K ++ current) (steps ∷ histories)
+  left = outputs_leave may M start new mid after (F ++ current) (K ++ current) outs (steps ∷ histories) between (record { log = sent.grew; script = script; each = sent.allowed }) off
 
-  pub apart : without_outputs grown ≡ K ++ now
+  pub apart : without_outputs grown ≡ K ++ current
   apart = left.apart
 
   pub grew : HasCarried may M start after grown
@@ -394,7 +394,7 @@ module _ (may : List RuleValue → EntryValue → Type 0) (M : MissionValue) (a 
   acted_before = subst (λ P. AreActedBy M histories P F) (sym stay) at.acted
 
   before : acted_stop grown past ≡ None
-  before = ap (λ (L : Log). acted_stop L past) (append_assoc F now outs) ∙ stops_stay F (now ++ outs) n past (omega (arith, size)) fresh ∙ ap (acted_stop F) stay ∙ at.unstopped
+  before = ap (λ (earlier : Log). acted_stop earlier past) (append_assoc F current outs) ∙ stops_stay F (current ++ outs) n past (omega (arith, size)) fresh ∙ ap (acted_stop F) stay ∙ at.unstopped
 
   nine : stop_in (length past) e ≡ None
   nine = second_none (stop_of past) (stop_in (length past) e) ran.unstopped
@@ -403,34 +403,34 @@ module _ (may : List RuleValue → EntryValue → Type 0) (M : MissionValue) (a 
   nine_now = subst (λ k. stop_in k e ≡ None) size nine
 
   words_then : (c : ℕ) → c ≤ n → words_after M a grown c ≡ words_after M a F c
-  words_then c low = ap (λ (L : Log). words_after M a L c) (append_assoc F now outs) ∙ words_stay M.rules.version a.steps a.start F (now ++ outs) c (at_least n c (now ++ outs) low fresh)
+  words_then c low = ap (λ (earlier : Log). words_after M a earlier c) (append_assoc F current outs) ∙ words_stay M.rules.version a.steps a.start F (current ++ outs) c (at_least n c (current ++ outs) low fresh)
 
-  ideal_then : (c : ℕ) → c ≤ n → words_after M a grown c ≡ ideal_outputs M a.steps a.start (K ++ now) c
-  ideal_then c low = words_then c low ∙ at.ideal c low ∙ sym (ideal_stays M a.steps a.start K now c (at_least n c now low (from_now_on n now now_now)))
+  ideal_then : (c : ℕ) → c ≤ n → words_after M a grown c ≡ ideal_outputs M a.steps a.start (K ++ current) c
+  ideal_then c low = words_then c low ∙ at.ideal c low ∙ sym (ideal_stays M a.steps a.start K current c (at_least n c current low (from_now_on n current now_now)))
 
   active_lines : list_all (has e.active) (channels_running_in Switch e) ≡ true
   active_lines = filtered M steps past e part mission set agrees same (λ p. is_up (mode_in e p Switch)) e.active e.active (λ q there. there)
 
-  made_n : AllZip (λ carry entry. IsMadeBy M past e (steps_of steps carry.from) carry entry) (cycle_carries n e) now
-  made_n = subst (λ c. AllZip (λ carry entry. IsMadeBy M past e (steps_of steps carry.from) carry entry) (cycle_carries c e) now) size made
+  made_n : AllZip (λ carry entry. IsMadeBy M past e (steps_of steps carry.from) carry entry) (cycle_carries n e) current
+  made_n = subst (λ c. AllZip (λ carry entry. IsMadeBy M past e (steps_of steps carry.from) carry entry) (cycle_carries c e) current) size made
 
-  sound_n : IsSound M (K ++ now) n
+  sound_n : IsSound M (K ++ current) n
   sound_n =
-      main_theorem M (K ++ now) n mission (omega (arith, ran.within))
+      main_theorem M (K ++ current) n mission (omega (arith, ran.within))
       (record {
         before = K;
-        later = now;
+        later = current;
         entries = refl;
-        after = from_now_on n now now_now;
+        after = from_now_on n current now_now;
         due = due_by M histories past K (subst (λ P. AreDueBy M histories P K) (sym stay) at.between.due);
         unstopped = ap stop_of stay ∙ (ran_cycles may start bus w F K histories M at.between).unstopped;
       })
 
   -- no more was carried of the nine slots than up to any that stops the run: none does
-  goes_no_further : (slot : Slot) → length now ≡ length (cycle_carries n e) → halts n e slot ≡ true → length now ≤ length (carries_through n e slot)
+  goes_no_further : (slot : Slot) → length current ≡ length (cycle_carries n e) → halts n e slot ≡ true → length current ≤ length (carries_through n e slot)
   goes_no_further slot all stops = by slot (on_bus slot) refl stops
     where
-      by : (s : Slot) (b : Bool) → on_bus s ≡ b → halts n e s ≡ true → length now ≤ length (carries_through n e s)
+      by : (s : Slot) (b : Bool) → on_bus s ≡ b → halts n e s ≡ true → length current ≤ length (carries_through n e s)
       by s true on halted = differ (sym halted ∙ halts_nowhere n e nine_now s on)
       by Output false on halted = omega (arith, all)
       by Request false on halted = absurd cc
@@ -444,30 +444,30 @@ module _ (may : List RuleValue → EntryValue → Type 0) (M : MissionValue) (a 
       by Switch false on halted = absurd cc
 
   -- the exchange was broken off: the first few of the lines were sent
-  pub broken_here : (few : ℕ) → lines ≡ take few part.lines → ActedPart M a n grown (K ++ now) histories
+  pub broken_here : (few : ℕ) → lines ≡ take few part.lines → ActedPart M a n grown (K ++ current) histories
   broken_here few these =
       let some : AllZip (λ q entry. IsOutputDue M.rules.version part.cycle q (voted_words (place_or e.voted q [])) entry) (take few (channels_running_in Switch e)) outs =
       outputs_due_by M e M.rules.version part.cycle words (take few (channels_running_in Switch e)) (take few part.lines) outs
       (take_map (shown_line M.rules.channels M.width (length M.outputs)) few part.lines ∙ ap (take few) (lines_are M steps past e part mission set agrees same) ∙ sym (take_map (line_of M e) few (channels_running_in Switch e)))
       (votes_of_few words few part.lines (votes_for M steps past e part mission set agrees same)) agrees.votes
       (all_of_few (has e.active) few (channels_running_in Switch e) active_lines) (subst (λ ls. AllZip (IsLineDue M.rules.version (length words) part.cycle) ls outs) these due_lines) in
-      let count_now : length now ≡ length (cycle_carries n e) = zip_length (λ carry entry. IsMadeBy M past e (steps_of steps carry.from) carry entry) (cycle_carries n e) now made_n in
-      let due : AllZip (IsDue M past e) (cycle_carries n e) now = each_due M past e steps (cycle_carries n e) now made_n in
-      let whole : take (length now) (cycle_carries n e) ≡ cycle_carries n e = ap (λ k. take k (cycle_carries n e)) count_now ∙ take_all (cycle_carries n e) in
+      let count_now : length current ≡ length (cycle_carries n e) = zip_length (λ carry entry. IsMadeBy M past e (steps_of steps carry.from) carry entry) (cycle_carries n e) current made_n in
+      let due : AllZip (IsDue M past e) (cycle_carries n e) current = each_due M past e steps (cycle_carries n e) current made_n in
+      let whole : take (length current) (cycle_carries n e) ≡ cycle_carries n e = ap (λ k. take k (cycle_carries n e)) count_now ∙ take_all (cycle_carries n e) in
       record {
         within = omega (arith, ran.within);
         beside = at.between.beside;
         before = F;
-        now = now;
+        now = current;
         outs = outs;
-        entries = append_assoc F now outs;
+        entries = append_assoc F current outs;
         acted = acted_before;
-        due_now = subst (λ carries. AllZip (IsDue M past e) carries now) (sym whole) due;
+        due_now = subst (λ carries. AllZip (IsDue M past e) carries current) (sym whole) due;
         due_outs = few_taken _ few (channels_running_in Switch e) outs (subst (λ c. AllZip (λ q entry. IsOutputDue M.rules.version c q (voted_words (place_or e.voted q [])) entry) (take few (channels_running_in Switch e)) outs) cycle_is some);
         behind = λ _. count_now;
         passed = λ _. nine_now;
         left = λ _. omega (arith, ran.within);
-        up_to_stop = subst (λ L. IsUpToStop M L now n) (sym at.between.apart) (λ slot stops. goes_no_further slot count_now stops);
+        up_to_stop = subst (λ earlier. IsUpToStop M earlier current n) (sym at.between.apart) (λ slot stops. goes_no_further slot count_now stops);
         unstopped = before;
         sound = sound_n;
         ideal = ideal_then;
@@ -483,20 +483,20 @@ module _ (may : List RuleValue → EntryValue → Type 0) (M : MissionValue) (a 
         (outputs_due_by M e M.rules.version part.cycle words (channels_running_in Switch e) part.lines outs (lines_are M steps past e part mission set agrees same) (votes_for M steps past e part mission set agrees same) agrees.votes
         active_lines due_all)
 
-    acted_now : AreActedBy M (steps ∷ histories) (cycles_before M (K ++ now) (suc n)) grown
-    acted_now = (F, now, outs, append_assoc F now outs, acted_before, made, full, outs_due)
+    acted_now : AreActedBy M (steps ∷ histories) (cycles_before M (K ++ current) (suc n)) grown
+    acted_now = (F, current, outs, append_assoc F current outs, acted_before, made, full, outs_due)
 
     charged : (q : Channel) → list_any (is_output_charge n q) grown ≡ list_any (is_output_charge n q) outs
-    charged q = charged_between n q (F ++ now) outs before_apart
+    charged q = charged_between n q (F ++ current) outs before_apart
 
     -- the stop of the run, where these channels are disturbed at the end of the output slot
-    stop_by : acted_stop grown (cycles_before M (K ++ now) (suc n)) ≡ output_stop n e grown
+    stop_by : acted_stop grown (cycles_before M (K ++ current) (suc n)) ≡ output_stop n e grown
     stop_by =
         ap (λ s. first_of_two s (first_of_two (stop_in (length past) e) (output_stop (length past) e grown))) before
         ∙ ap (λ s. first_of_two s (output_stop (length past) e grown)) nine
         ∙ ap (λ k. output_stop k e grown) size
 
-    no_stop : is_third part.active (disturbed_with (disturbed_channels n e Switch) part.cycle outs) ≡ false → acted_stop grown (cycles_before M (K ++ now) (suc n)) ≡ None
+    no_stop : is_third part.active (disturbed_with (disturbed_channels n e Switch) part.cycle outs) ≡ false → acted_stop grown (cycles_before M (K ++ current) (suc n)) ≡ None
     no_stop fewer =
         let few : is_third e.active (disturbed_with (disturbed_channels n e Switch) n outs) ≡ false =
         sym (ap (λ (r : RecordValue). is_third r.active (disturbed_with (disturbed_channels n e Switch) r.cycle outs)) record_is) ∙ fewer in
@@ -507,8 +507,8 @@ module _ (may : List RuleValue → EntryValue → Type 0) (M : MissionValue) (a 
 
     ballots_now : ballots_taken M.rules.version (length a.start) grown n ≡ ballots_taken M.rules.version (length gate.words) outs part.cycle
     ballots_now =
-        ap (λ (L : Log). ballots_taken M.rules.version (length a.start) L n) (sym (append-nil grown))
-        ∙ ballots_between M.rules.version (length a.start) n (F ++ now) outs [] before_apart tt
+        ap (λ (earlier : Log). ballots_taken M.rules.version (length a.start) earlier n) (sym (append-nil grown))
+        ∙ ballots_between M.rules.version (length a.start) n (F ++ current) outs [] before_apart tt
         ∙ ap (λ k. ballots_taken M.rules.version k outs n) (sym gate_count)
         ∙ ap (ballots_taken M.rules.version (length gate.words) outs) (sym cycle_is)
 
@@ -522,29 +522,29 @@ module _ (may : List RuleValue → EntryValue → Type 0) (M : MissionValue) (a 
         ∙ ap (λ bs. G a.steps (words_moved a.steps (words_after M a grown n) bs)) (sym ballots_now)
 
     ideal_now : Moves may mid.script M.rules.version part (settled_of n e) mid.log after.log gate gate_after → gate_after ≡ record { steps = a.steps; words = words_after M a grown (suc n) } →
-        words_after M a grown (suc n) ≡ ideal_outputs M a.steps a.start (K ++ now) (suc n)
+        words_after M a grown (suc n) ≡ ideal_outputs M a.steps a.start (K ++ current) (suc n)
     ideal_now moves gate_is =
         let towards : gate_after ≡ record gate { words = words_towards gate.steps gate.words words } = moves.towards words (count ∙ sym at.sizes ∙ sym gate_count) (votes_for M steps past e part mission set agrees same) in
         ap (λ (g : GateValue). g.words) (sym gate_is ∙ towards)
         ∙ ap (λ (g : GateValue). words_towards g.steps g.words words) at.gate_is
-        ∙ ap (λ ws. words_towards a.steps ws words) (at.ideal n (omega arith) ∙ sym (ideal_stays M a.steps a.start K now n (from_now_on n now now_now)))
+        ∙ ap (λ ws. words_towards a.steps ws words) (at.ideal n (omega arith) ∙ sym (ideal_stays M a.steps a.start K current n (from_now_on n current now_now)))
 
     -- the run goes on by the cycle and its exchange
-    pub goes_on : (moves : Moves may mid.script M.rules.version part (settled_of n e) mid.log after.log gate gate_after) → outs ≡ moves.now → IsActing may M a start new after gate_after grown (K ++ now) (steps ∷ histories)
+    pub goes_on : (moves : Moves may mid.script M.rules.version part (settled_of n e) mid.log after.log gate gate_after) → outs ≡ moves.now → IsActing may M a start new after gate_after grown (K ++ current) (steps ∷ histories)
     goes_on moves these =
         let few = ap (λ (x : Log). is_third part.active (disturbed_with (disturbed_channels n e Switch) part.cycle x)) these ∙ moves.few in
         let gate_was = gate_now (moves.moved ∙ ap (λ (x : Log). record gate { words = words_moved gate.steps gate.words (ballots_taken M.rules.version (length gate.words) x part.cycle) }) (sym these)) in
-        let ideal_all : (c : ℕ) → c ≤ suc n → words_after M a grown c ≡ ideal_outputs M a.steps a.start (K ++ now) c =
-        below_or_at (λ c. words_after M a grown c ≡ ideal_outputs M a.steps a.start (K ++ now) c) n ideal_then (ideal_now moves gate_was) in
+        let ideal_all : (c : ℕ) → c ≤ suc n → words_after M a grown c ≡ ideal_outputs M a.steps a.start (K ++ current) c =
+        below_or_at (λ c. words_after M a grown c ≡ ideal_outputs M a.steps a.start (K ++ current) c) n ideal_then (ideal_now moves gate_was) in
         record {
           sizes = at.sizes;
           between = left;
-          acted = subst (λ k. AreActedBy M (steps ∷ histories) (cycles_before M (K ++ now) k) grown) (sym done) acted_now;
+          acted = subst (λ k. AreActedBy M (steps ∷ histories) (cycles_before M (K ++ current) k) grown) (sym done) acted_now;
           earlier = subst (λ k. AllByRecursion (λ (y : EntryValue). y.cycle < k) grown) (sym done)
-              (all_both _ (F ++ now) outs (all_both _ F now (all_weaken _ _ (λ y h. omega (arith, h)) F at.earlier) (all_weaken _ _ (λ y h. omega (arith, h)) now now_now)) (all_weaken _ _ (λ y h. omega (arith, h)) outs outs_now));
-          unstopped = subst (λ k. acted_stop grown (cycles_before M (K ++ now) k) ≡ None) (sym done) (no_stop few);
+              (all_both _ (F ++ current) outs (all_both _ F current (all_weaken _ _ (λ y h. omega (arith, h)) F at.earlier) (all_weaken _ _ (λ y h. omega (arith, h)) current now_now)) (all_weaken _ _ (λ y h. omega (arith, h)) outs outs_now));
+          unstopped = subst (λ k. acted_stop grown (cycles_before M (K ++ current) k) ≡ None) (sym done) (no_stop few);
           gate_is = gate_was ∙ ap (λ k. record { steps = a.steps; words = words_after M a grown k }) (sym done);
-          ideal = subst (λ k. (c : ℕ) → c ≤ k → words_after M a grown c ≡ ideal_outputs M a.steps a.start (K ++ now) c) (sym done) ideal_all;
+          ideal = subst (λ k. (c : ℕ) → c ≤ k → words_after M a grown c ≡ ideal_outputs M a.steps a.start (K ++ current) c) (sym done) ideal_all;
         }
 
     -- ---- the stop of the output slot
@@ -595,17 +595,17 @@ module _ (may : List RuleValue → EntryValue → Type 0) (M : MissionValue) (a 
         ∙ ap (λ (s : ChannelSet). Some (record { cycle = n; slot = Output; set = s; active = e.active })) rule
 
     pub stopped_here : (told : ChannelSet) → told ≡ disturbed_with (disturbed_channels n e Switch) part.cycle outs → is_third part.active told ≡ true →
-        ActedToStop M a n (record { cycle = part.cycle; slot = Output; set = told; active = part.active }) grown (K ++ now) histories
+        ActedToStop M a n (record { cycle = part.cycle; slot = Output; set = told; active = part.active }) grown (K ++ current) histories
     stopped_here told is many =
-        let T : RecordValue → Type 0 = λ r. ActedToStop M a n (record { cycle = r.cycle; slot = Output; set = told; active = r.active }) grown (K ++ now) histories in
+        let T : RecordValue → Type 0 = λ r. ActedToStop M a n (record { cycle = r.cycle; slot = Output; set = told; active = r.active }) grown (K ++ current) histories in
         subst T (sym record_is)
         (record {
           within = omega (arith, ran.within);
           beside = at.between.beside;
           before = F;
-          now = now;
+          now = current;
           outs = outs;
-          entries = append_assoc F now outs;
+          entries = append_assoc F current outs;
           acted = acted_before;
           steps = steps;
           due_now = made_n;

@@ -106,72 +106,72 @@ through c e slot = (flat_map (slot_carries c e) (after slot), parts slot)
 
 -- ---- one more cycle
 
-module _ (M : MissionValue) (L now : Log) (n : ℕ) (histories : Histories) where
+module _ (M : MissionValue) (earlier current : Log) (n : ℕ) (histories : Histories) where
   -- entries of this cycle or later ones leave what was due before
-  pub due_stays : AreFrom n now → AreDueBy M histories (cycles_before M L n) L → AreDueBy M histories (cycles_before M (L ++ now) n) L
-  due_stays from due = subst (λ past. AreDueBy M histories past L) (sym (cycles_before-append M L now n from)) due
+  pub due_stays : AreFrom n current → AreDueBy M histories (cycles_before M earlier n) earlier → AreDueBy M histories (cycles_before M (earlier ++ current) n) earlier
+  due_stays from due = subst (λ past. AreDueBy M histories past earlier) (sym (cycles_before-append M earlier current n from)) due
 
-  pub unstopped_stays : AreFrom n now → stop_of (cycles_before M L n) ≡ None → stop_of (cycles_before M (L ++ now) n) ≡ None
-  unstopped_stays from h = ap stop_of (cycles_before-append M L now n from) ∙ h
+  pub unstopped_stays : AreFrom n current → stop_of (cycles_before M earlier n) ≡ None → stop_of (cycles_before M (earlier ++ current) n) ≡ None
+  unstopped_stays from h = ap stop_of (cycles_before-append M earlier current n from) ∙ h
 
-  pub made_of_cycle : (steps : Steps) → AreMadeBy M steps (cycles_before M (L ++ now) n) (cycle_at M (L ++ now) n) now → AreFrom n now
+  pub made_of_cycle : (steps : Steps) → AreMadeBy M steps (cycles_before M (earlier ++ current) n) (cycle_at M (earlier ++ current) n) current → AreFrom n current
   made_of_cycle steps made =
-      subst (λ c. AreFrom c now) (length-cycles_before M (L ++ now) n) (from_made M (cycles_before M (L ++ now) n) (cycle_at M (L ++ now) n) steps now made)
+      subst (λ c. AreFrom c current) (length-cycles_before M (earlier ++ current) n) (from_made M (cycles_before M (earlier ++ current) n) (cycle_at M (earlier ++ current) n) steps current made)
 
   -- so far the run is sound
-  sound_part : (few : ℕ) → IsMission M → n ≤ M.cycles → AreFrom n now → AreDueBy M histories (cycles_before M L n) L → stop_of (cycles_before M L n) ≡ None →
-      AllZip (IsDue M (cycles_before M (L ++ now) n) (cycle_at M (L ++ now) n)) (take few (cycle_carries n (cycle_at M (L ++ now) n))) now → IsSound M (L ++ now) n
+  sound_part : (few : ℕ) → IsMission M → n ≤ M.cycles → AreFrom n current → AreDueBy M histories (cycles_before M earlier n) earlier → stop_of (cycles_before M earlier n) ≡ None →
+      AllZip (IsDue M (cycles_before M (earlier ++ current) n) (cycle_at M (earlier ++ current) n)) (take few (cycle_carries n (cycle_at M (earlier ++ current) n))) current → IsSound M (earlier ++ current) n
   sound_part few mission within from due unstopped last =
-      let past = cycles_before M (L ++ now) n in
-      let e = cycle_at M (L ++ now) n in
-      let front : AreDueSoFar M past e few (L ++ now) =
-      (L, now, refl, due_by M histories past L (due_stays from due), subst (λ c. AllZip (IsDue M past e) (take few (cycle_carries c e)) now) (sym (length-cycles_before M (L ++ now) n)) last) in
-      main_theorem M (L ++ now) n mission within (broken_run M (L ++ now) n few front (unstopped_stays from unstopped))
+      let past = cycles_before M (earlier ++ current) n in
+      let e = cycle_at M (earlier ++ current) n in
+      let front : AreDueSoFar M past e few (earlier ++ current) =
+      (earlier, current, refl, due_by M histories past earlier (due_stays from due), subst (λ c. AllZip (IsDue M past e) (take few (cycle_carries c e)) current) (sym (length-cycles_before M (earlier ++ current) n)) last) in
+      main_theorem M (earlier ++ current) n mission within (broken_run M (earlier ++ current) n few front (unstopped_stays from unstopped))
 
-  pub ran_part : length histories ≡ n → IsMission M → n ≤ M.cycles → (0 < length now → n < M.cycles) → AreDueBy M histories (cycles_before M L n) L → stop_of (cycles_before M L n) ≡ None →
-      AllZip (IsDue M (cycles_before M (L ++ now) n) (cycle_at M (L ++ now) n)) (take (length now) (cycle_carries n (cycle_at M (L ++ now) n))) now → IsUpToStop M L now n →
-      HasRunPart M n (L ++ now) histories
+  pub ran_part : length histories ≡ n → IsMission M → n ≤ M.cycles → (0 < length current → n < M.cycles) → AreDueBy M histories (cycles_before M earlier n) earlier → stop_of (cycles_before M earlier n) ≡ None →
+      AllZip (IsDue M (cycles_before M (earlier ++ current) n) (cycle_at M (earlier ++ current) n)) (take (length current) (cycle_carries n (cycle_at M (earlier ++ current) n))) current → IsUpToStop M earlier current n →
+      HasRunPart M n (earlier ++ current) histories
   ran_part beside mission within left due unstopped last up_to_stop =
-      let from = from_few M (cycles_before M (L ++ now) n) (cycle_at M (L ++ now) n) n (length now) now last in
+      let from = from_few M (cycles_before M (earlier ++ current) n) (cycle_at M (earlier ++ current) n) n (length current) current last in
       record {
         within = within;
         beside = beside;
-        before = L;
-        now = now;
+        before = earlier;
+        now = current;
         entries = refl;
         due = due_stays from due;
         due_now = last;
         left = left;
         up_to_stop = up_to_stop;
         unstopped = unstopped_stays from unstopped;
-        sound = sound_part (length now) mission within from due unstopped last;
+        sound = sound_part (length current) mission within from due unstopped last;
       }
 
   -- the carries up to a slot, as a number of the cycle's carries
-  as_few : (slot : Slot) → AllZip (IsDue M (cycles_before M (L ++ now) n) (cycle_at M (L ++ now) n)) (carries_through n (cycle_at M (L ++ now) n) slot) now →
-      AllZip (IsDue M (cycles_before M (L ++ now) n) (cycle_at M (L ++ now) n)) (take (length now) (cycle_carries n (cycle_at M (L ++ now) n))) now
+  as_few : (slot : Slot) → AllZip (IsDue M (cycles_before M (earlier ++ current) n) (cycle_at M (earlier ++ current) n)) (carries_through n (cycle_at M (earlier ++ current) n) slot) current →
+      AllZip (IsDue M (cycles_before M (earlier ++ current) n) (cycle_at M (earlier ++ current) n)) (take (length current) (cycle_carries n (cycle_at M (earlier ++ current) n))) current
   as_few slot due =
-      let past = cycles_before M (L ++ now) n in
-      let e = cycle_at M (L ++ now) n in
+      let past = cycles_before M (earlier ++ current) n in
+      let e = cycle_at M (earlier ++ current) n in
       let (rest, whole) = through n e slot in
-      let these : take (length now) (cycle_carries n e) ≡ carries_through n e slot =
-      ap (take (length now)) whole ∙ ap (λ k. take k (carries_through n e slot ++ rest)) (zip_length (IsDue M past e) (carries_through n e slot) now due) ∙ take-append_seam (carries_through n e slot) rest in
-      subst (λ carries. AllZip (IsDue M past e) carries now) (sym these) due
+      let these : take (length current) (cycle_carries n e) ≡ carries_through n e slot =
+      ap (take (length current)) whole ∙ ap (λ k. take k (carries_through n e slot ++ rest)) (zip_length (IsDue M past e) (carries_through n e slot) current due) ∙ take-append_seam (carries_through n e slot) rest in
+      subst (λ carries. AllZip (IsDue M past e) carries current) (sym these) due
 
-  pub ran_to_stop : (stop : StopValue) (steps : Steps) → length histories ≡ n → IsMission M → n < M.cycles → AreDueBy M histories (cycles_before M L n) L → stop_of (cycles_before M L n) ≡ None →
-      AllZip (λ carry entry. IsMadeBy M (cycles_before M (L ++ now) n) (cycle_at M (L ++ now) n) (steps_of steps carry.from) carry entry) (carries_through n (cycle_at M (L ++ now) n) stop.slot) now →
-      (slot_index Tasks < slot_index stop.slot → AreFull M (cycles_before M (L ++ now) n) (cycle_at M (L ++ now) n) steps) → stop_in n (cycle_at M (L ++ now) n) ≡ Some stop →
-      HasRunToStop M n stop (L ++ now) histories
+  pub ran_to_stop : (stop : StopValue) (steps : Steps) → length histories ≡ n → IsMission M → n < M.cycles → AreDueBy M histories (cycles_before M earlier n) earlier → stop_of (cycles_before M earlier n) ≡ None →
+      AllZip (λ carry entry. IsMadeBy M (cycles_before M (earlier ++ current) n) (cycle_at M (earlier ++ current) n) (steps_of steps carry.from) carry entry) (carries_through n (cycle_at M (earlier ++ current) n) stop.slot) current →
+      (slot_index Tasks < slot_index stop.slot → AreFull M (cycles_before M (earlier ++ current) n) (cycle_at M (earlier ++ current) n) steps) → stop_in n (cycle_at M (earlier ++ current) n) ≡ Some stop →
+      HasRunToStop M n stop (earlier ++ current) histories
   ran_to_stop stop steps beside mission below due unstopped made full stops =
-      let past = cycles_before M (L ++ now) n in
-      let e = cycle_at M (L ++ now) n in
-      let last = each_due M past e steps (carries_through n e stop.slot) now made in
-      let from = from_through M past e n stop.slot now last in
+      let past = cycles_before M (earlier ++ current) n in
+      let e = cycle_at M (earlier ++ current) n in
+      let last = each_due M past e steps (carries_through n e stop.slot) current made in
+      let from = from_through M past e n stop.slot current last in
       record {
         within = below;
         beside = beside;
-        before = L;
-        now = now;
+        before = earlier;
+        now = current;
         entries = refl;
         due = due_stays from due;
         steps = steps;
@@ -179,7 +179,7 @@ module _ (M : MissionValue) (L now : Log) (n : ℕ) (histories : Histories) wher
         full = full;
         unstopped = unstopped_stays from unstopped;
         stopped = stops;
-        sound = sound_part (length now) mission (omega (arith, below)) from due unstopped (as_few stop.slot last);
+        sound = sound_part (length current) mission (omega (arith, below)) from due unstopped (as_few stop.slot last);
       }
 
 -- ---- the first stop

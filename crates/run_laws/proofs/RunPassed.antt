@@ -70,9 +70,9 @@ all_on_bus c e = through every_slot refl
 
 module _ (may : List RuleValue → EntryValue → Type 0) where
   -- output entries leave what stands for the world
-  pub outputs_leave : (M : MissionValue) (start : BusValue) (w : WorldValue) (bus after : BusValue) (F L outs : Log) (histories : Histories) → IsBetween may M start w bus F L histories → Carries may bus after outs →
-      without_outputs outs ≡ [] → IsBetween may M start w after (F ++ outs) L histories
-  outputs_leave M start w bus after F L outs histories at carries none =
+  pub outputs_leave : (M : MissionValue) (start : BusValue) (w : WorldValue) (bus after : BusValue) (F earlier outs : Log) (histories : Histories) → IsBetween may M start w bus F earlier histories → Carries may bus after outs →
+      without_outputs outs ≡ [] → IsBetween may M start w after (F ++ outs) earlier histories
+  outputs_leave M start w bus after F earlier outs histories at carries none =
       record {
         mission = at.mission;
         unspent = at.unspent;
@@ -81,7 +81,7 @@ module _ (may : List RuleValue → EntryValue → Type 0) where
           script = carries.script ∙ at.ran.script;
           each = all_append (may (bus_rules M)) F outs at.ran.each (subst (λ rules. AllByRecursion (may rules) outs) at.ran.script carries.each);
         };
-        apart = filter-append (λ (e : EntryValue). on_bus e.slot) F outs ∙ ap (λ xs. xs ++ without_outputs outs) at.apart ∙ ap (λ xs. L ++ xs) none ∙ append-nil L;
+        apart = filter-append (λ (e : EntryValue). on_bus e.slot) F outs ∙ ap (λ xs. xs ++ without_outputs outs) at.apart ∙ ap (λ xs. earlier ++ xs) none ∙ append-nil earlier;
         stands = at.stands;
         beside = at.beside;
         due = at.due;
@@ -100,17 +100,17 @@ module _ (may : List RuleValue → EntryValue → Type 0) where
         due = refl;
       }
 
-  module _ (start bus : BusValue) (w : WorldValue) (F L : Log) (histories : Histories) where
+  module _ (start bus : BusValue) (w : WorldValue) (F earlier : Log) (histories : Histories) where
     -- the entries of the run are the last ones of the log
-    last_of_run : (M : MissionValue) → IsBetween may M start w bus F L histories → last_entries w.carried bus.log ≡ L
+    last_of_run : (M : MissionValue) → IsBetween may M start w bus F earlier histories → last_entries w.carried bus.log ≡ earlier
     last_of_run M at =
         let before : Log = without_outputs start.log in
-        let apart : without_outputs bus.log ≡ before ++ L =
+        let apart : without_outputs bus.log ≡ before ++ earlier =
         ap without_outputs at.ran.log ∙ filter-append (λ (e : EntryValue). on_bus e.slot) start.log F ∙ ap (λ xs. before ++ xs) at.apart in
-        let count : length (before ++ L) - w.carried ≡ length before = omega (arith, length-append before L, at.stands.count) in
-        ap (λ (xs : Log). drop (length xs - w.carried) xs) apart ∙ ap (λ k. drop k (before ++ L)) count ∙ drop-append_seam before L
+        let count : length (before ++ earlier) - w.carried ≡ length before = omega (arith, length-append before earlier, at.stands.count) in
+        ap (λ (xs : Log). drop (length xs - w.carried) xs) apart ∙ ap (λ k. drop k (before ++ earlier)) count ∙ drop-append_seam before earlier
 
-    pub may_cycle : (M : MissionValue) → IsBetween may M start w bus F L histories → w.done < w.mission.cycles → MayCycle w bus
+    pub may_cycle : (M : MissionValue) → IsBetween may M start w bus F earlier histories → w.done < w.mission.cycles → MayCycle w bus
     may_cycle M at below =
         record {
           below = below;
@@ -118,13 +118,13 @@ module _ (may : List RuleValue → EntryValue → Type 0) where
         }
 
     -- the cycles so far ran
-    pub ran_cycles : (M : MissionValue) → IsBetween may M start w bus F L histories → HasRunCycles M w.done L histories
+    pub ran_cycles : (M : MissionValue) → IsBetween may M start w bus F earlier histories → HasRunCycles M w.done earlier histories
     ran_cycles M at = by M at.mission at
       where
-        by : (K : MissionValue) → w.mission ≡ K → IsBetween may K start w bus F L histories → HasRunCycles K w.done L histories
+        by : (K : MissionValue) → w.mission ≡ K → IsBetween may K start w bus F earlier histories → HasRunCycles K w.done earlier histories
         by K same at =
             let stands = at.stands in
-            let unstopped : stop_of (cycles_before K L w.done) ≡ None = subst (λ k. stop_of (cycles_before k L w.done) ≡ None) same stands.unstopped in
+            let unstopped : stop_of (cycles_before K earlier w.done) ≡ None = subst (λ k. stop_of (cycles_before k earlier w.done) ≡ None) same stands.unstopped in
             let mission : IsMission K = subst IsMission same stands.mission in
             let within : w.done ≤ K.cycles = subst (λ (k : MissionValue). w.done ≤ k.cycles) same stands.cycles in
             record {
@@ -132,18 +132,18 @@ module _ (may : List RuleValue → EntryValue → Type 0) where
               beside = at.beside;
               due = at.due;
               unstopped = unstopped;
-              sound = main_theorem K L w.done mission within (whole_run K L w.done (record { due = due_by K histories (cycles_before K L w.done) L at.due; unstopped = unstopped }));
+              sound = main_theorem K earlier w.done mission within (whole_run K earlier w.done (record { due = due_by K histories (cycles_before K earlier w.done) earlier at.due; unstopped = unstopped }));
             }
 
-    pub ran_short : (M : MissionValue) → IsBetween may M start w bus F L histories → HasRunPart M w.done L histories
+    pub ran_short : (M : MissionValue) → IsBetween may M start w bus F earlier histories → HasRunPart M w.done earlier histories
     ran_short M at =
         let ran = ran_cycles M at in
         record {
           within = ran.within;
           beside = ran.beside;
-          before = L;
+          before = earlier;
           now = [];
-          entries = sym (append-nil L);
+          entries = sym (append-nil earlier);
           due = ran.due;
           due_now = tt;
           left = λ some. absurd (omega (arith, some));
@@ -153,82 +153,82 @@ module _ (may : List RuleValue → EntryValue → Type 0) where
         }
 
     -- the log grows
-    ran_more : (M : MissionValue) (after : BusValue) (now : Log) → HasCarried may M start bus F → Carries may bus after now → HasCarried may M start after (F ++ now)
-    ran_more M after now ran carries =
+    ran_more : (M : MissionValue) (after : BusValue) (current : Log) → HasCarried may M start bus F → Carries may bus after current → HasCarried may M start after (F ++ current)
+    ran_more M after current ran carries =
         record {
-          log = carries.log ∙ ap (λ log. log ++ now) ran.log ∙ append_assoc start.log F now;
+          log = carries.log ∙ ap (λ log. log ++ current) ran.log ∙ append_assoc start.log F current;
           script = carries.script ∙ ran.script;
-          each = all_append (may (bus_rules M)) F now ran.each (subst (λ rules. AllByRecursion (may rules) now) ran.script carries.each);
+          each = all_append (may (bus_rules M)) F current ran.each (subst (λ rules. AllByRecursion (may rules) current) ran.script carries.each);
         }
 
-    module _ (new : WorldValue) (after : BusValue) (now : Log) (at : IsBetween may w.mission start w bus F L histories) (carries : Carries may bus after now) where
-      goes_on : (part : RecordValue) (e : Cycle) (past : Past) → Finishes w L now part new e past → PassesOn may w.mission start w F L histories (Ok part) new after
+    module _ (new : WorldValue) (after : BusValue) (current : Log) (at : IsBetween may w.mission start w bus F earlier histories) (carries : Carries may bus after current) where
+      goes_on : (part : RecordValue) (e : Cycle) (past : Past) → Finishes w earlier current part new e past → PassesOn may w.mission start w F earlier histories (Ok part) new after
       goes_on part e past f =
           let M = w.mission in
-          let these : Cycle = cycle_at M (L ++ now) w.done in
-          let before : Past = cycles_before M (L ++ now) w.done in
-          let same : e ≡ these = f.facts ∙ ap (next_cycle M (L ++ now)) f.earlier in
-          let made : AreMadeBy M f.steps before these now = subst (λ x. AreMadeBy M f.steps before x now) same (subst (λ p. AreMadeBy M f.steps p e now) f.earlier f.due) in
-          let full : AreFull M before these f.steps = subst (λ x. AreFull M before x f.steps) same (subst (λ p. AreFull M p e f.steps) f.earlier f.full) in
-          let from = made_of_cycle M L now w.done histories f.steps made in
-          let due : AreDueBy M (f.steps ∷ histories) (cycles_before M (L ++ now) (suc w.done)) (L ++ now) = (L, now, refl, due_stays M L now w.done histories from at.due, made, full) in
-          let between : IsBetween may M start new after (F ++ now) (L ++ now) (f.steps ∷ histories) =
+          let these : Cycle = cycle_at M (earlier ++ current) w.done in
+          let before : Past = cycles_before M (earlier ++ current) w.done in
+          let same : e ≡ these = f.facts ∙ ap (next_cycle M (earlier ++ current)) f.past_is in
+          let made : AreMadeBy M f.steps before these current = subst (λ x. AreMadeBy M f.steps before x current) same (subst (λ p. AreMadeBy M f.steps p e current) f.past_is f.due) in
+          let full : AreFull M before these f.steps = subst (λ x. AreFull M before x f.steps) same (subst (λ p. AreFull M p e f.steps) f.past_is f.full) in
+          let from = made_of_cycle M earlier current w.done histories f.steps made in
+          let due : AreDueBy M (f.steps ∷ histories) (cycles_before M (earlier ++ current) (suc w.done)) (earlier ++ current) = (earlier, current, refl, due_stays M earlier current w.done histories from at.due, made, full) in
+          let between : IsBetween may M start new after (F ++ current) (earlier ++ current) (f.steps ∷ histories) =
           record {
             mission = f.mission;
             unspent = f.spent;
-            ran = ran_more M after now at.ran carries;
-            apart = filter-append (λ (e : EntryValue). on_bus e.slot) F now ∙ ap (λ xs. xs ++ without_outputs now) at.apart
-                ∙ ap (λ xs. L ++ xs) (made_on_bus M f.steps before these (cycle_carries (length before) these) now made (all_on_bus (length before) these));
+            ran = ran_more M after current at.ran carries;
+            apart = filter-append (λ (e : EntryValue). on_bus e.slot) F current ∙ ap (λ xs. xs ++ without_outputs current) at.apart
+                ∙ ap (λ xs. earlier ++ xs) (made_on_bus M f.steps before these (cycle_carries (length before) these) current made (all_on_bus (length before) these));
             stands = f.stands;
             beside = ap suc at.beside ∙ sym f.done;
-            due = subst (λ n. AreDueBy M (f.steps ∷ histories) (cycles_before M (L ++ now) n) (L ++ now)) (sym f.done) due;
+            due = subst (λ n. AreDueBy M (f.steps ∷ histories) (cycles_before M (earlier ++ current) n) (earlier ++ current)) (sym f.done) due;
           } in
-          (now, f.steps, between, f.done, made, full, cycles_before-append M L now w.done from, f.record_is ∙ ap (cycle_record M f.steps w.done) same)
+          (current, f.steps, between, f.done, made, full, cycles_before-append M earlier current w.done from, f.record_is ∙ ap (cycle_record M f.steps w.done) same)
 
-      stops_run : (stop : StopValue) (e : Cycle) (past : Past) → w.done < w.mission.cycles → Stops w L now stop new e past → PassesOn may w.mission start w F L histories (Err (disturbed stop)) new after
+      stops_run : (stop : StopValue) (e : Cycle) (past : Past) → w.done < w.mission.cycles → Stops w earlier current stop new e past → PassesOn may w.mission start w F earlier histories (Err (disturbed stop)) new after
       stops_run stop e past below s =
           let M = w.mission in
-          let these : Cycle = cycle_at M (L ++ now) w.done in
-          let before : Past = cycles_before M (L ++ now) w.done in
-          let same : e ≡ these = s.facts ∙ ap (next_cycle M (L ++ now)) s.earlier in
-          let Made : Past → Cycle → Type 0 = λ p x. AllZip (λ carry entry. IsMadeBy M p x (steps_of s.steps carry.from) carry entry) (carries_through w.done x stop.slot) now in
-          let made : Made before these = subst (Made before) same (subst (λ p. Made p e) s.earlier s.due) in
-          let full : slot_index Tasks < slot_index stop.slot → AreFull M before these s.steps = λ later. subst (λ x. AreFull M before x s.steps) same (subst (λ p. AreFull M p e s.steps) s.earlier (s.full later)) in
-          let from = from_through M before these w.done stop.slot now (each_due M before these s.steps (carries_through w.done these stop.slot) now made) in (
-            now,
-            ran_more M after now at.ran carries,
-            ran_to_stop M L now w.done histories stop s.steps at.beside at.stands.mission below at.due at.stands.unstopped made full (ap (stop_in w.done) (sym same) ∙ s.stop_is),
-            cycles_before-append M L now w.done from,
+          let these : Cycle = cycle_at M (earlier ++ current) w.done in
+          let before : Past = cycles_before M (earlier ++ current) w.done in
+          let same : e ≡ these = s.facts ∙ ap (next_cycle M (earlier ++ current)) s.past_is in
+          let Made : Past → Cycle → Type 0 = λ p x. AllZip (λ carry entry. IsMadeBy M p x (steps_of s.steps carry.from) carry entry) (carries_through w.done x stop.slot) current in
+          let made : Made before these = subst (Made before) same (subst (λ p. Made p e) s.past_is s.due) in
+          let full : slot_index Tasks < slot_index stop.slot → AreFull M before these s.steps = λ later. subst (λ x. AreFull M before x s.steps) same (subst (λ p. AreFull M p e s.steps) s.past_is (s.full later)) in
+          let from = from_through M before these w.done stop.slot current (each_due M before these s.steps (carries_through w.done these stop.slot) current made) in (
+            current,
+            ran_more M after current at.ran carries,
+            ran_to_stop M earlier current w.done histories stop s.steps at.beside at.stands.mission below at.due at.stands.unstopped made full (ap (stop_in w.done) (sym same) ∙ s.stop_is),
+            cycles_before-append M earlier current w.done from,
           )
 
-      runs_out : (e : Cycle) (past : Past) → w.done < w.mission.cycles → IsUpToStop w.mission L now w.done → CycleRunsOutOfMemory w L now new e past →
-          PassesOn may w.mission start w F L histories (Err no_memory) new after
+      runs_out : (e : Cycle) (past : Past) → w.done < w.mission.cycles → IsUpToStop w.mission earlier current w.done → CycleRunsOutOfMemory w earlier current new e past →
+          PassesOn may w.mission start w F earlier histories (Err no_memory) new after
       runs_out e past below up_to_stop r =
           let M = w.mission in
-          let these : Cycle = cycle_at M (L ++ now) w.done in
-          let before : Past = cycles_before M (L ++ now) w.done in
-          let same : e ≡ these = r.facts ∙ ap (next_cycle M (L ++ now)) r.earlier in
-          let Due : Past → Cycle → Type 0 = λ p x. AllZip (IsDue M p x) (take (length now) (cycle_carries w.done x)) now in
-          let due : Due before these = subst (Due before) same (subst (λ p. Due p e) r.earlier r.due) in
-          let from = from_few M before these w.done (length now) now due in (
-            now,
-            ran_more M after now at.ran carries,
-            ran_part M L now w.done histories at.beside at.stands.mission at.stands.cycles (λ some. below) at.due at.stands.unstopped due up_to_stop,
-            cycles_before-append M L now w.done from,
+          let these : Cycle = cycle_at M (earlier ++ current) w.done in
+          let before : Past = cycles_before M (earlier ++ current) w.done in
+          let same : e ≡ these = r.facts ∙ ap (next_cycle M (earlier ++ current)) r.past_is in
+          let Due : Past → Cycle → Type 0 = λ p x. AllZip (IsDue M p x) (take (length current) (cycle_carries w.done x)) current in
+          let due : Due before these = subst (Due before) same (subst (λ p. Due p e) r.past_is r.due) in
+          let from = from_few M before these w.done (length current) current due in (
+            current,
+            ran_more M after current at.ran carries,
+            ran_part M earlier current w.done histories at.beside at.stands.mission at.stands.cycles (λ some. below) at.due at.stands.unstopped due up_to_stop,
+            cycles_before-append M earlier current w.done from,
           )
 
-      ends : (result : Result RecordValue HaltValue) → w.done < w.mission.cycles → (result ≡ Err no_memory → IsUpToStop w.mission L now w.done) → Ends w L now result new →
-          PassesOn may w.mission start w F L histories result new after
+      ends : (result : Result RecordValue HaltValue) → w.done < w.mission.cycles → (result ≡ Err no_memory → IsUpToStop w.mission earlier current w.done) → Ends w earlier current result new →
+          PassesOn may w.mission start w F earlier histories result new after
       ends (Ok part) below up_to_stop (e, past, f) = goes_on part e past f
       ends (Err (disturbed stop)) below up_to_stop (e, past, s) = stops_run stop e past below s
       ends (Err no_memory) below up_to_stop (e, past, r) = runs_out e past below (up_to_stop refl) r
 
-    pub passes_on : (M : MissionValue) (result : Result RecordValue HaltValue) (new : WorldValue) (after : BusValue) → IsBetween may M start w bus F L histories → w.done < w.mission.cycles →
-        PassesCycle may w.spent w bus result new after → CarriesUpToStop w bus result after → PassesOn may M start w F L histories result new after
+    pub passes_on : (M : MissionValue) (result : Result RecordValue HaltValue) (new : WorldValue) (after : BusValue) → IsBetween may M start w bus F earlier histories → w.done < w.mission.cycles →
+        PassesCycle may w.spent w bus result new after → CarriesUpToStop w bus result after → PassesOn may M start w F earlier histories result new after
     passes_on M result new after at below cycled no_further =
-        let own : IsBetween may w.mission start w bus F L histories = subst (λ k. IsBetween may k start w bus F L histories) (sym at.mission) at in
-        let (now, carries, count, end) = subst (λ s. PassesCycle may s w bus result new after) at.unspent cycled in
-        let end_of_run : Ends w L now result new = subst (λ K. Ends w K now result new) (last_of_run M at) end in
-        let up_to_stop : result ≡ Err no_memory → IsUpToStop w.mission L now w.done =
-        λ none. subst (λ K. IsUpToStop w.mission K now w.done) (last_of_run M at) (no_further at.unspent none now carries.log) in
-        subst (λ k. PassesOn may k start w F L histories result new after) at.mission (ends new after now own carries result below up_to_stop end_of_run)
+        let own : IsBetween may w.mission start w bus F earlier histories = subst (λ k. IsBetween may k start w bus F earlier histories) (sym at.mission) at in
+        let (current, carries, count, end) = subst (λ s. PassesCycle may s w bus result new after) at.unspent cycled in
+        let end_of_run : Ends w earlier current result new = subst (λ K. Ends w K current result new) (last_of_run M at) end in
+        let up_to_stop : result ≡ Err no_memory → IsUpToStop w.mission earlier current w.done =
+        λ none. subst (λ K. IsUpToStop w.mission K current w.done) (last_of_run M at) (no_further at.unspent none current carries.log) in
+        subst (λ k. PassesOn may k start w F earlier histories result new after) at.mission (ends new after current own carries result below up_to_stop end_of_run)

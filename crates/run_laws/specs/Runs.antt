@@ -91,18 +91,18 @@ pub record IsBetween (may : List RuleValue → EntryValue → Type 0) (M : Missi
 -- the run, or it breaks the run off. The facts of the earlier cycles stay.
 abbrev pub PassesOn : (List RuleValue → EntryValue → Type 0) → MissionValue → BusValue → WorldValue → Log → Log → Histories →
     Result RecordValue HaltValue → WorldValue → BusValue → Type 0
-PassesOn may M start w F L histories (Ok part) new bus =
-    (now : Log) × (steps : Steps) × IsBetween may M start new bus (F ++ now) (L ++ now) (steps ∷ histories) × (new.done ≡ suc w.done)
-    × AreMadeBy M steps (cycles_before M (L ++ now) w.done) (cycle_at M (L ++ now) w.done) now
-    × AreFull M (cycles_before M (L ++ now) w.done) (cycle_at M (L ++ now) w.done) steps
-    × (cycles_before M (L ++ now) w.done ≡ cycles_before M L w.done)
-    × (shown M.rules.channels M.width (length M.outputs) part ≡ cycle_record M steps w.done (cycle_at M (L ++ now) w.done))
-PassesOn may M start w F L histories (Err (disturbed stop)) new bus =
-    (now : Log) × HasCarried may M start bus (F ++ now) × HasRunToStop M w.done stop (L ++ now) histories
-    × (cycles_before M (L ++ now) w.done ≡ cycles_before M L w.done)
-PassesOn may M start w F L histories (Err no_memory) new bus =
-    (now : Log) × HasCarried may M start bus (F ++ now) × HasRunPart M w.done (L ++ now) histories
-    × (cycles_before M (L ++ now) w.done ≡ cycles_before M L w.done)
+PassesOn may M start w F earlier histories (Ok part) new bus =
+    (current : Log) × (steps : Steps) × IsBetween may M start new bus (F ++ current) (earlier ++ current) (steps ∷ histories) × (new.done ≡ suc w.done)
+    × AreMadeBy M steps (cycles_before M (earlier ++ current) w.done) (cycle_at M (earlier ++ current) w.done) current
+    × AreFull M (cycles_before M (earlier ++ current) w.done) (cycle_at M (earlier ++ current) w.done) steps
+    × (cycles_before M (earlier ++ current) w.done ≡ cycles_before M earlier w.done)
+    × (shown M.rules.channels M.width (length M.outputs) part ≡ cycle_record M steps w.done (cycle_at M (earlier ++ current) w.done))
+PassesOn may M start w F earlier histories (Err (disturbed stop)) new bus =
+    (current : Log) × HasCarried may M start bus (F ++ current) × HasRunToStop M w.done stop (earlier ++ current) histories
+    × (cycles_before M (earlier ++ current) w.done ≡ cycles_before M earlier w.done)
+PassesOn may M start w F earlier histories (Err no_memory) new bus =
+    (current : Log) × HasCarried may M start bus (F ++ current) × HasRunPart M w.done (earlier ++ current) histories
+    × (cycles_before M (earlier ++ current) w.done ≡ cycles_before M earlier w.done)
 
 -- ---- as a text
 

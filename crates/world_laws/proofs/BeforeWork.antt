@@ -83,10 +83,10 @@ nodes_early M L n steps other [] = refl
 nodes_early M L n steps other (q ∷ qs) =
     ap (λ x. x ∷ map (node_in M L n steps Tasks 4) qs) (node_early M L n steps other q) ∙ ap (λ xs. node_in M L n other Tasks 4 q ∷ xs) (nodes_early M L n steps other qs)
 
-pub comes_later : (M : MissionValue) (L now : Log) (steps other : Steps) (w : WorldValue) → InCycle M L now steps Tasks 5 4 w → InCycle M L now other Tasks 5 4 w
-comes_later M L now steps other w inside =
-    let past = cycles_before M (L ++ now) w.done in
-    let e = cycle_at M (L ++ now) w.done in
+pub comes_later : (M : MissionValue) (earlier current : Log) (steps other : Steps) (w : WorldValue) → InCycle M earlier current steps Tasks 5 4 w → InCycle M earlier current other Tasks 5 4 w
+comes_later M earlier current steps other w inside =
+    let past = cycles_before M (earlier ++ current) w.done in
+    let e = cycle_at M (earlier ++ current) w.done in
     record {
       mission = inside.mission;
       ranges = inside.ranges;
@@ -95,10 +95,10 @@ comes_later M L now steps other w inside =
       count = inside.count;
       before = inside.before;
       unstopped = inside.unstopped;
-      current = zip_weaken (λ carry entry. IsMadeBy M past e (steps_of steps carry.from) carry entry) (λ carry entry. IsMadeBy M past e (steps_of other carry.from) carry entry)
-          (λ (carry : Carry). is_early carry.slot) (carries_done w.done e 5) now (done_early w.done e) (made_early M past e steps other) inside.current;
+      made = zip_weaken (λ carry entry. IsMadeBy M past e (steps_of steps carry.from) carry entry) (λ carry entry. IsMadeBy M past e (steps_of other carry.from) carry entry)
+          (λ (carry : Carry). is_early carry.slot) (carries_done w.done e 5) current (done_early w.done e) (made_early M past e steps other) inside.made;
       unhalted = inside.unhalted;
-      nodes = inside.nodes ∙ nodes_early M (L ++ now) w.done steps other (channels_of M);
+      nodes = inside.nodes ∙ nodes_early M (earlier ++ current) w.done steps other (channels_of M);
       ledger = inside.ledger;
       switches = inside.switches;
     }

@@ -112,20 +112,20 @@ module _ (M : MissionValue) (K : Log) (mission : IsMission M) where
         few_done c n 9,
       )
 
-pub slot_fits : (M : MissionValue) (L now : Log) (steps : Steps) (last slot : Slot) (carried handed : ℕ) (w : WorldValue) → InCycle M L now steps last carried handed w →
-    length (slot_carries w.done (cycle_at M (L ++ now) w.done) slot) ≤ 49
-slot_fits M L now steps last slot carried handed w inside = few_carries M (L ++ now) inside.ranges w.done w.done slot
+pub slot_fits : (M : MissionValue) (earlier current : Log) (steps : Steps) (last slot : Slot) (carried handed : ℕ) (w : WorldValue) → InCycle M earlier current steps last carried handed w →
+    length (slot_carries w.done (cycle_at M (earlier ++ current) w.done) slot) ≤ 49
+slot_fits M earlier current steps last slot carried handed w inside = few_carries M (earlier ++ current) inside.ranges w.done w.done slot
 
-pub carried_fit : (M : MissionValue) (L now : Log) (steps : Steps) (slot : Slot) (carried handed : ℕ) (w : WorldValue) → InCycle M L now steps slot carried handed w → w.carried ≤ 1000000
-carried_fit M L now steps slot carried handed w inside =
-    let past = cycles_before M (L ++ now) w.done in
-    let e = cycle_at M (L ++ now) w.done in
+pub carried_fit : (M : MissionValue) (earlier current : Log) (steps : Steps) (slot : Slot) (carried handed : ℕ) (w : WorldValue) → InCycle M earlier current steps slot carried handed w → w.carried ≤ 1000000
+carried_fit M earlier current steps slot carried handed w inside =
+    let past = cycles_before M (earlier ++ current) w.done in
+    let e = cycle_at M (earlier ++ current) w.done in
     omega (
       arith,
       inside.count,
       inside.below,
       (ranges M inside.ranges).cycles,
-      few_due M (L ++ now) inside.ranges w.done L inside.before,
-      zip_length (λ carry entry. IsMadeBy M past e (steps_of steps carry.from) carry entry) (carries_done w.done e carried) now inside.current,
-      few_done M (L ++ now) inside.ranges w.done w.done carried,
+      few_due M (earlier ++ current) inside.ranges w.done earlier inside.before,
+      zip_length (λ carry entry. IsMadeBy M past e (steps_of steps carry.from) carry entry) (carries_done w.done e carried) current inside.made,
+      few_done M (earlier ++ current) inside.ranges w.done w.done carried,
     )

@@ -64,18 +64,18 @@ rose k on down h none = absurd cc
 rose k on (waiting n) h none = absurd cc
 rose k on joining h none = refl
 
-module _ (M : MissionValue) (L now : Log) (steps : Steps) (w : WorldValue) (inside : InCycle M L now steps Switch 9 9 w) where
+module _ (M : MissionValue) (earlier current : Log) (steps : Steps) (w : WorldValue) (inside : InCycle M earlier current steps Switch 9 9 w) where
   abbrev n : ℕ
   n = w.done
 
   abbrev past : Past
-  past = cycles_before M (L ++ now) n
+  past = cycles_before M (earlier ++ current) n
 
   abbrev e : Cycle
-  e = cycle_at M (L ++ now) n
+  e = cycle_at M (earlier ++ current) n
 
   abbrev after : WorldValue
-  after = world_after M L now steps n w.carried
+  after = world_after M earlier current steps n w.carried
 
   abbrev on : Channel → Bool
   on q = has (active_set M (e ∷ past)) q
@@ -83,17 +83,17 @@ module _ (M : MissionValue) (L now : Log) (steps : Steps) (w : WorldValue) (insi
   abbrev node : Channel → NodeValue
   node q = node_with M q (ended_state (on q) (state_in M past e steps Switch 9 q))
 
-  stands : StandsForWorld after (L ++ now)
-  stands = world_goes_on M L now steps w inside
+  stands : StandsForWorld after (earlier ++ current)
+  stands = world_goes_on M earlier current steps w inside
 
-  run : HasRun M (L ++ now) (suc n)
-  run = whole_run M (L ++ now) (suc n) (is_run after (L ++ now) stands)
+  run : HasRun M (earlier ++ current) (suc n)
+  run = whole_run M (earlier ++ current) (suc n) (is_run after (earlier ++ current) stands)
 
   sound : IsSoundCycle M past e
-  sound = (main_theorem M (L ++ now) (suc n) inside.ranges inside.below run).cycles.0
+  sound = (main_theorem M (earlier ++ current) (suc n) inside.ranges inside.below run).cycles.0
 
-  made : AreMadeBy M steps past e now
-  made = subst (λ c. AllZip (λ carry entry. IsMadeBy M past e (steps_of steps carry.from) carry entry) (cycle_carries c e) now) (sym (length-cycles_before M (L ++ now) n)) inside.current
+  made : AreMadeBy M steps past e current
+  made = subst (λ c. AllZip (λ carry entry. IsMadeBy M past e (steps_of steps carry.from) carry entry) (cycle_carries c e) current) (sym (length-cycles_before M (earlier ++ current) n)) inside.made
 
   node_there : (q : Channel) → q < M.rules.channels → node_of after q ≡ Some (node q)
   node_there q low = place_of node 0 M.rules.channels q low ∙ ap (λ k. Some (node k)) (from_zero q)
@@ -115,14 +115,14 @@ module _ (M : MissionValue) (L now : Log) (steps : Steps) (w : WorldValue) (insi
   trail : (q : Channel) → IsTrue (has (channels_running_in Switch e) q) → has e.removed q ≡ false → HasTrail after q n (steps_of steps q)
   trail q runs kept =
       let parts = both (is_up (mode_in e q Switch)) (has e.active q) (sym (has-filter (λ p. is_up (mode_in e p Switch)) e.active q) ∙ runs) in
-      let low : q < M.rules.channels = active_within M (L ++ now) n q (sym (ap (λ (s : ChannelSet). has s q) (active-is M (L ++ now) past)) ∙ parts.1) in
+      let low : q < M.rules.channels = active_within M (earlier ++ current) n q (sym (ap (λ (s : ChannelSet). has s q) (active-is M (earlier ++ current) past)) ∙ parts.1) in
       let few : M.rules.channels ≤ 7 = channels_few M inside.ranges in
       let worked : WorkedValue = worked_in M past e steps q in (
         worked,
         ap (option_and_then worked_of) (node_there q low)
             ∙ ap worked_of (node_in_mode q up (up-is (mode_in e q Switch) parts.0))
             ∙ ap (λ b. worked_of (node_with M q (ended_state b (running (running_state M past e steps 9 q))))) (stays_on q parts.1 kept (omega (arith, low, few))),
-        length-cycles_before M (L ++ now) n,
+        length-cycles_before M (earlier ++ current) n,
         refl,
       )
 
@@ -138,11 +138,11 @@ module _ (M : MissionValue) (L now : Log) (steps : Steps) (w : WorldValue) (insi
   taken q whole =
       let joined : has e.joined q ≡ true = (both (has e.joined q) (joins_since q (start_of e.transfer) (e ∷ past)) whole).0 in
       let rises : is_up (mode_after M (e ∷ past) q) ≡ true = sound.only_whole_rise q joined ∙ whole in
-      let low : q < M.rules.channels = active_within M (L ++ now) (suc n) q (up_active M (L ++ now) inside.ranges (suc n) q (up-is (mode_after M (e ∷ past) q) rises)) in
+      let low : q < M.rules.channels = active_within M (earlier ++ current) (suc n) q (up_active M (earlier ++ current) inside.ranges (suc n) q (up-is (mode_after M (e ∷ past) q) rises)) in
       let few : M.rules.channels ≤ 7 = channels_few M inside.ranges in
       let was : mode_in e q Switch ≡ joining =
       rose M.return_after (on q) (mode_in e q Switch) (ap (λ b. is_up (mode_at_end M.return_after (on q) b (mode_in e q Switch))) (sym whole) ∙ rises)
-      (λ is. differ (sym (active_in M (L ++ now) n inside.ranges q (omega (arith, low, few)) Switch is) ∙ joined_passive M (L ++ now) n q joined)) in
+      (λ is. differ (sym (active_in M (earlier ++ current) n inside.ranges q (omega (arith, low, few)) Switch is) ∙ joined_passive M (earlier ++ current) n q joined)) in
       ap (option_and_then context_of) (node_there q low)
       ∙ ap context_of (node_in_mode q joining was)
       ∙ held_by q (content_taken M q past e)
@@ -156,53 +156,53 @@ as_old old w = record w { mission = old.mission; done = old.done }
 same_world : (old w : WorldValue) → w.mission ≡ old.mission → w.done ≡ old.done → w ≡ as_old old w
 same_world old w mission done = ap (λ (M : MissionValue). record w { mission = M }) mission ∙ ap (λ (n : ℕ). record w { mission = old.mission; done = n }) done
 
-pub finishes : (old w new : WorldValue) (L now : Log) (steps : Steps) (part : RecordValue) → w.mission ≡ old.mission → w.done ≡ old.done →
-    InCycle w.mission L now steps Switch 9 9 w → AreFull w.mission (cycles_before w.mission (L ++ now) w.done) (cycle_at w.mission (L ++ now) w.done) steps →
-    shown w.mission.rules.channels w.mission.width (length w.mission.outputs) part ≡ cycle_record w.mission steps w.done (cycle_at w.mission (L ++ now) w.done) →
-    AllByRecursion (IsLinePadded w.mission) part.lines → new ≡ world_after w.mission L now steps w.done w.carried → Ends old L now (Ok part) new
-finishes old w new L now steps part mission done inside full record_is padded new_is =
+pub finishes : (old w new : WorldValue) (earlier current : Log) (steps : Steps) (part : RecordValue) → w.mission ≡ old.mission → w.done ≡ old.done →
+    InCycle w.mission earlier current steps Switch 9 9 w → AreFull w.mission (cycles_before w.mission (earlier ++ current) w.done) (cycle_at w.mission (earlier ++ current) w.done) steps →
+    shown w.mission.rules.channels w.mission.width (length w.mission.outputs) part ≡ cycle_record w.mission steps w.done (cycle_at w.mission (earlier ++ current) w.done) →
+    AllByRecursion (IsLinePadded w.mission) part.lines → new ≡ world_after w.mission earlier current steps w.done w.carried → Ends old earlier current (Ok part) new
+finishes old w new earlier current steps part mission done inside full record_is padded new_is =
     let M = old.mission in
     let same = same_world old w mission done in
     let x = as_old old w in
-    let within : InCycle M L now steps Switch 9 9 x = subst (λ (v : WorldValue). InCycle v.mission L now steps Switch 9 9 v) same inside in
-    let ends : world_after M L now steps old.done w.carried ≡ new = sym (new_is ∙ ap (λ (v : WorldValue). world_after v.mission L now steps v.done v.carried) same) in (
-      cycle_at M (L ++ now) old.done,
-      cycles_before M (L ++ now) old.done,
+    let within : InCycle M earlier current steps Switch 9 9 x = subst (λ (v : WorldValue). InCycle v.mission earlier current steps Switch 9 9 v) same inside in
+    let ends : world_after M earlier current steps old.done w.carried ≡ new = sym (new_is ∙ ap (λ (v : WorldValue). world_after v.mission earlier current steps v.done v.carried) same) in (
+      cycle_at M (earlier ++ current) old.done,
+      cycles_before M (earlier ++ current) old.done,
       record {
-        earlier = refl;
+        past_is = refl;
         facts = refl;
         steps = steps;
-        due = made M L now steps x within;
-        full = subst (λ (v : WorldValue). AreFull v.mission (cycles_before v.mission (L ++ now) v.done) (cycle_at v.mission (L ++ now) v.done) steps) same full;
+        due = made M earlier current steps x within;
+        full = subst (λ (v : WorldValue). AreFull v.mission (cycles_before v.mission (earlier ++ current) v.done) (cycle_at v.mission (earlier ++ current) v.done) steps) same full;
         padded = subst (λ (v : WorldValue). AllByRecursion (IsLinePadded v.mission) part.lines) same padded;
-        record_is = subst (λ (v : WorldValue). shown v.mission.rules.channels v.mission.width (length v.mission.outputs) part ≡ cycle_record v.mission steps v.done (cycle_at v.mission (L ++ now) v.done)) same record_is;
+        record_is = subst (λ (v : WorldValue). shown v.mission.rules.channels v.mission.width (length v.mission.outputs) part ≡ cycle_record v.mission steps v.done (cycle_at v.mission (earlier ++ current) v.done)) same record_is;
         mission = sym (ap (λ (v : WorldValue). v.mission) ends);
         done = sym (ap (λ (v : WorldValue). v.done) ends);
         spent = sym (ap (λ (v : WorldValue). v.spent) ends);
-        stands = subst (λ (v : WorldValue). StandsForWorld v (L ++ now)) ends (stands M L now steps x within);
-        sound = sound M L now steps x within;
-        trails = λ q runs kept. subst (λ (v : WorldValue). HasTrail v q old.done (steps_of steps q)) ends (trail M L now steps x within q runs kept);
-        taken = λ q whole. subst (λ (v : WorldValue). option_and_then context_of (node_of v q) ≡ context_taken M q (cycles_before M (L ++ now) old.done) (cycle_at M (L ++ now) old.done)) ends (taken M L now steps x within q whole);
+        stands = subst (λ (v : WorldValue). StandsForWorld v (earlier ++ current)) ends (stands M earlier current steps x within);
+        sound = sound M earlier current steps x within;
+        trails = λ q runs kept. subst (λ (v : WorldValue). HasTrail v q old.done (steps_of steps q)) ends (trail M earlier current steps x within q runs kept);
+        taken = λ q whole. subst (λ (v : WorldValue). option_and_then context_of (node_of v q) ≡ context_taken M q (cycles_before M (earlier ++ current) old.done) (cycle_at M (earlier ++ current) old.done)) ends (taken M earlier current steps x within q whole);
       },
     )
 
-pub stops : (old w new : WorldValue) (L now : Log) (steps : Steps) (stop : StopValue) → w.mission ≡ old.mission → w.done ≡ old.done →
-    IsStopIn w.mission L now w.done steps stop.slot → stop_in w.done (cycle_at w.mission (L ++ now) w.done) ≡ Some stop →
-    (slot_index Tasks < slot_index stop.slot → AreFull w.mission (cycles_before w.mission (L ++ now) w.done) (cycle_at w.mission (L ++ now) w.done) steps) →
-    new.mission ≡ w.mission → new.done ≡ w.done → new.spent ≡ Some (disturbed stop) → Ends old L now (Err (disturbed stop)) new
-stops old w new L now steps stop mission done halts stop_is full kept count spent =
+pub stops : (old w new : WorldValue) (earlier current : Log) (steps : Steps) (stop : StopValue) → w.mission ≡ old.mission → w.done ≡ old.done →
+    IsStopIn w.mission earlier current w.done steps stop.slot → stop_in w.done (cycle_at w.mission (earlier ++ current) w.done) ≡ Some stop →
+    (slot_index Tasks < slot_index stop.slot → AreFull w.mission (cycles_before w.mission (earlier ++ current) w.done) (cycle_at w.mission (earlier ++ current) w.done) steps) →
+    new.mission ≡ w.mission → new.done ≡ w.done → new.spent ≡ Some (disturbed stop) → Ends old earlier current (Err (disturbed stop)) new
+stops old w new earlier current steps stop mission done halts stop_is full kept count spent =
     let M = old.mission in
     let same = same_world old w mission done in
-    let within : IsStopIn M L now old.done steps stop.slot = subst (λ (v : WorldValue). IsStopIn v.mission L now v.done steps stop.slot) same halts in (
-      cycle_at M (L ++ now) old.done,
-      cycles_before M (L ++ now) old.done,
+    let within : IsStopIn M earlier current old.done steps stop.slot = subst (λ (v : WorldValue). IsStopIn v.mission earlier current v.done steps stop.slot) same halts in (
+      cycle_at M (earlier ++ current) old.done,
+      cycles_before M (earlier ++ current) old.done,
       record {
-        earlier = refl;
+        past_is = refl;
         facts = refl;
         steps = steps;
         due = within.due;
-        full = λ passed. subst (λ (v : WorldValue). AreFull v.mission (cycles_before v.mission (L ++ now) v.done) (cycle_at v.mission (L ++ now) v.done) steps) same (full passed);
-        stop_is = subst (λ (v : WorldValue). stop_in v.done (cycle_at v.mission (L ++ now) v.done) ≡ Some stop) same stop_is;
+        full = λ passed. subst (λ (v : WorldValue). AreFull v.mission (cycles_before v.mission (earlier ++ current) v.done) (cycle_at v.mission (earlier ++ current) v.done) steps) same (full passed);
+        stop_is = subst (λ (v : WorldValue). stop_in v.done (cycle_at v.mission (earlier ++ current) v.done) ≡ Some stop) same stop_is;
         before = within.before;
         mission = kept ∙ mission;
         done = count ∙ done;
@@ -210,17 +210,17 @@ stops old w new L now steps stop mission done halts stop_is full kept count spen
       },
     )
 
-pub runs_out : (old w new : WorldValue) (L now : Log) → w.mission ≡ old.mission → w.done ≡ old.done → IsFront w.mission L now w.done →
-    new.mission ≡ w.mission → new.done ≡ w.done → new.spent ≡ Some no_memory → Ends old L now (Err no_memory) new
-runs_out old w new L now mission done front kept count spent =
+pub runs_out : (old w new : WorldValue) (earlier current : Log) → w.mission ≡ old.mission → w.done ≡ old.done → IsFront w.mission earlier current w.done →
+    new.mission ≡ w.mission → new.done ≡ w.done → new.spent ≡ Some no_memory → Ends old earlier current (Err no_memory) new
+runs_out old w new earlier current mission done front kept count spent =
     let M = old.mission in
     let same = same_world old w mission done in (
-      cycle_at M (L ++ now) old.done,
-      cycles_before M (L ++ now) old.done,
+      cycle_at M (earlier ++ current) old.done,
+      cycles_before M (earlier ++ current) old.done,
       record {
-        earlier = refl;
+        past_is = refl;
         facts = refl;
-        due = subst (λ (v : WorldValue). IsFront v.mission L now v.done) same front;
+        due = subst (λ (v : WorldValue). IsFront v.mission earlier current v.done) same front;
         mission = kept ∙ mission;
         done = count ∙ done;
         spent = spent;

@@ -148,14 +148,14 @@ from_next n j (y ∷ entries) late none =
     here true is empty (inr same) = absurd (omega (arith, one_if_true (at j y.slot) is, empty))
     here false is empty (inr same) = inr (same.0, grind (arith, is, same.1))
 
-module _ (M : MissionValue) (L now new : Log) (n : ℕ) (steps later : Steps) (carried more : ℕ)
-    (before : AllZip (Made M (L ++ now) n steps) (carries_done n (cycle_at M (L ++ now) n) carried) now)
-    (after : AllZip (Made M (L ++ (now ++ new)) n later) (carries_done n (cycle_at M (L ++ (now ++ new)) n) more) (now ++ new)) where
+module _ (M : MissionValue) (earlier current new : Log) (n : ℕ) (steps later : Steps) (carried more : ℕ)
+    (before : AllZip (Made M (earlier ++ current) n steps) (carries_done n (cycle_at M (earlier ++ current) n) carried) current)
+    (after : AllZip (Made M (earlier ++ (current ++ new)) n later) (carries_done n (cycle_at M (earlier ++ (current ++ new)) n) more) (current ++ new)) where
   abbrev e : Cycle
-  e = cycle_at M (L ++ now) n
+  e = cycle_at M (earlier ++ current) n
 
   abbrev x : Cycle
-  x = cycle_at M (L ++ (now ++ new)) n
+  x = cycle_at M (earlier ++ (current ++ new)) n
 
   -- a slot has as many carries as before, while nothing new is of an earlier one
   slot_same : (slot : Slot) → AreFromPlace n (slot_index slot) new → slot_carries n e slot ≡ slot_carries n x slot
@@ -163,9 +163,9 @@ module _ (M : MissionValue) (L now new : Log) (n : ℕ) (steps later : Steps) (c
     where
       by_bus : (b : Bool) → on_bus slot ≡ b → slot_carries n e slot ≡ slot_carries n x slot
       by_bus true on =
-          subst (λ (X : Log). slot_carries n e slot ≡ slot_carries n (cycle_at M X n) slot) (append_assoc L now new)
-          (grown M (L ++ now) new n steps slot on late (λ p y. slot_carries n e slot ≡ slot_carries n y slot)
-          (carries_same M (L ++ now) new n steps slot on late n (is_n M (L ++ now) new n steps slot on late) slot (le-leb (slot_index slot) (slot_index slot) (omega arith))))
+          subst (λ (X : Log). slot_carries n e slot ≡ slot_carries n (cycle_at M X n) slot) (append_assoc earlier current new)
+          (grown M (earlier ++ current) new n steps slot on late (λ p y. slot_carries n e slot ≡ slot_carries n y slot)
+          (carries_same M (earlier ++ current) new n steps slot on late n (is_n M (earlier ++ current) new n steps slot on late) slot (le-leb (slot_index slot) (slot_index slot) (omega arith))))
       by_bus false off = no_frames slot off
         where
           no_frames : (s : Slot) → on_bus s ≡ false → slot_carries n e s ≡ slot_carries n x s
@@ -190,9 +190,9 @@ module _ (M : MissionValue) (L now new : Log) (n : ℕ) (steps later : Steps) (c
   none_new : (j : ℕ) → j < carried → AreFromPlace n j new → entries_at j new ≡ 0
   none_new j low late =
       let P : Carry → Bool = λ carry. at j carry.slot in
-      let split : entries_at j (now ++ new) ≡ entries_at j now + entries_at j new = count-append (λ (y : EntryValue). at j y.slot) now new in
-      let had = as_many M (L ++ now) n steps j (carries_done n e carried) now before in
-      let has = as_many M (L ++ (now ++ new)) n later j (carries_done n x more) (now ++ new) after in
+      let split : entries_at j (current ++ new) ≡ entries_at j current + entries_at j new = count-append (λ (y : EntryValue). at j y.slot) current new in
+      let had = as_many M (earlier ++ current) n steps j (carries_done n e carried) current before in
+      let has = as_many M (earlier ++ (current ++ new)) n later j (carries_done n x more) (current ++ new) after in
       let front = count_front P (slot_carries n x) more every_slot in
       let same = count_same P (slot_carries n x) (slot_carries n e) every_slot (counts_same j late) in
       let taken = count_taken P (slot_carries n e) (λ s. nat_le carried (slot_index s)) carried every_slot (dropped carried) (λ s far. none_in n e j s (grind (arith, low, leb-true carried (slot_index s) far))) in
@@ -201,15 +201,15 @@ module _ (M : MissionValue) (L now new : Log) (n : ℕ) (steps later : Steps) (c
   from_place : (j : ℕ) → j ≤ carried → AreFromPlace n j new
   from_place zero low =
       from_first n new
-      (last_part (λ (y : EntryValue). y.cycle == n) now new
-      (of_cycle M (L ++ (now ++ new)) n later (carries_done n x more) (now ++ new) (all-flat_map (λ (carry : Carry). carry.cycle == n) (slot_carries n x) (take more every_slot) (carries_of n x)) after))
+      (last_part (λ (y : EntryValue). y.cycle == n) current new
+      (of_cycle M (earlier ++ (current ++ new)) n later (carries_done n x more) (current ++ new) (all-flat_map (λ (carry : Carry). carry.cycle == n) (slot_carries n x) (take more every_slot) (carries_of n x)) after))
   from_place (suc j) low =
       let late = from_place j (omega (arith, low)) in
       from_next n j new late (none_new j low late)
 
-pub follows : (M : MissionValue) (L now new : Log) (steps later : Steps) (slot last : Slot) (carried handed more given : ℕ) (w after : WorldValue) → after.done ≡ w.done →
-    InCycle M L now steps slot carried handed w → InCycle M L (now ++ new) later last more given after → AreFromPlace w.done carried new
-follows M L now new steps later slot last carried handed more given w after same was is =
-    from_place M L now new w.done steps later carried more was.current
-    (subst (λ n. AllZip (Made M (L ++ (now ++ new)) n later) (carries_done n (cycle_at M (L ++ (now ++ new)) n) more) (now ++ new)) same is.current)
+pub follows : (M : MissionValue) (earlier current new : Log) (steps later : Steps) (slot last : Slot) (carried handed more given : ℕ) (w after : WorldValue) → after.done ≡ w.done →
+    InCycle M earlier current steps slot carried handed w → InCycle M earlier (current ++ new) later last more given after → AreFromPlace w.done carried new
+follows M earlier current new steps later slot last carried handed more given w after same was is =
+    from_place M earlier current new w.done steps later carried more was.made
+    (subst (λ n. AllZip (Made M (earlier ++ (current ++ new)) n later) (carries_done n (cycle_at M (earlier ++ (current ++ new)) n) more) (current ++ new)) same is.made)
     carried (omega arith)

@@ -75,20 +75,20 @@ later_through c e slot later h =
 
 -- ---- within a slot
 
-module _ (M : MissionValue) (L now new : Log) (steps : Steps) (slot : Slot) (on : on_bus slot ≡ true) (w : WorldValue)
-    (inside : InCycle M L now steps slot (slot_index slot) (slot_index slot) w) (few : ℕ)
-    (carried : AreDueCarries M (L ++ now) w.done steps (take few (slot_carries w.done (cycle_at M (L ++ now) w.done) slot)) new) where
+module _ (M : MissionValue) (earlier current new : Log) (steps : Steps) (slot : Slot) (on : on_bus slot ≡ true) (w : WorldValue)
+    (inside : InCycle M earlier current steps slot (slot_index slot) (slot_index slot) w) (few : ℕ)
+    (carried : AreDueCarries M (earlier ++ current) w.done steps (take few (slot_carries w.done (cycle_at M (earlier ++ current) w.done) slot)) new) where
   abbrev n : ℕ
   n = w.done
 
   abbrev K : Log
-  K = L ++ now
+  K = earlier ++ current
 
   abbrev e : Cycle
   e = cycle_at M K n
 
   abbrev after : Cycle
-  after = cycle_at M (L ++ (now ++ new)) n
+  after = cycle_at M (earlier ++ (current ++ new)) n
 
   late : AreFromPlace n (slot_index slot) new
   late =
@@ -103,16 +103,16 @@ module _ (M : MissionValue) (L now new : Log) (steps : Steps) (slot : Slot) (on 
 
   -- what holds of the cycle with the new entries holds of the longer log
   at_log : (Φ : Cycle → Type 0) → Φ more → Φ after
-  at_log Φ h = subst (λ (X : Log). Φ (cycle_at M X n)) (append_assoc L now new) (grown M K new n steps slot on late (λ p x. Φ x) h)
+  at_log Φ h = subst (λ (X : Log). Φ (cycle_at M X n)) (append_assoc earlier current new) (grown M K new n steps slot on late (λ p x. Φ x) h)
 
   -- no more was carried than up to the end of the slot
-  within_slot : length (now ++ new) ≤ length (carries_through n after slot)
-  within_slot = at_log (λ x. length (now ++ new) ≤ length (carries_through n x slot)) counted
+  within_slot : length (current ++ new) ≤ length (carries_through n after slot)
+  within_slot = at_log (λ x. length (current ++ new) ≤ length (carries_through n x slot)) counted
     where
-      before : length now ≡ length (carries_done n more (slot_index slot))
+      before : length current ≡ length (carries_done n more (slot_index slot))
       before =
-          zip_length (λ carry entry. IsMadeBy M past more (steps_of steps carry.from) carry entry) (carries_done n more (slot_index slot)) now
-          (stay_made M K new n steps slot on late now inside.current)
+          zip_length (λ carry entry. IsMadeBy M past more (steps_of steps carry.from) carry entry) (carries_done n more (slot_index slot)) current
+          (stay_made M K new n steps slot on late current inside.made)
 
       here : length new ≡ length (take few (slot_carries n more slot))
       here =
@@ -124,21 +124,21 @@ module _ (M : MissionValue) (L now new : Log) (steps : Steps) (slot : Slot) (on 
           ap (λ (xs : List Carry). length xs) (through_is n more slot ∙ carries_next n more slot on)
           ∙ length-append (carries_done n more (slot_index slot)) (slot_carries n more slot)
 
-      counted : length (now ++ new) ≤ length (carries_through n more slot)
-      counted = omega (arith, length-append now new, before, here, whole, few_of few (slot_carries n more slot))
+      counted : length (current ++ new) ≤ length (carries_through n more slot)
+      counted = omega (arith, length-append current new, before, here, whole, few_of few (slot_carries n more slot))
 
   -- and the slots before do not stop the run
   unhalted : (s : Slot) → slot_index s < slot_index slot → halts n after s ≡ false
   unhalted s early = at_log (λ x. halts n x s ≡ false) (halts_same M K new n steps slot on late s early ∙ inside.unhalted s early)
 
-  up_to_stop : IsUpToStop M L (now ++ new) n
+  up_to_stop : IsUpToStop M earlier (current ++ new) n
   up_to_stop s stops = by_place (nat_le (slot_index slot) (slot_index s)) refl
     where
-      by_place : (b : Bool) → nat_le (slot_index slot) (slot_index s) ≡ b → length (now ++ new) ≤ length (carries_through n after s)
+      by_place : (b : Bool) → nat_le (slot_index slot) (slot_index s) ≡ b → length (current ++ new) ≤ length (carries_through n after s)
       by_place true is = omega (arith, within_slot, later_through n after slot s (leb-true (slot_index slot) (slot_index s) is))
       by_place false is =
           let goes : halts n after s ≡ false = unhalted s (leb-false (slot_index slot) (slot_index s) is) in
           absurd cc
 
-  pub run_front : IsRunFront M L (now ++ new) n
-  run_front = record { front = breaks_slot M L now new steps slot on w inside few carried; up_to_stop = up_to_stop }
+  pub run_front : IsRunFront M earlier (current ++ new) n
+  run_front = record { front = breaks_slot M earlier current new steps slot on w inside few carried; up_to_stop = up_to_stop }

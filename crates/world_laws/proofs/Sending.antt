@@ -187,12 +187,12 @@ zip_sent R f P (x ∷ xs) (y ∷ ys) h is z =
     let parts = both (P x) (list_all P xs) h in
     (is x y parts.0 z.0, zip_sent R f P xs ys parts.1 is z.1)
 
-module _ (M : MissionValue) (L now : Log) (steps : Steps) (slot : Slot) (w : WorldValue) (inside : InCycle M L now steps slot (slot_index slot) (slot_index slot) w) where
+module _ (M : MissionValue) (earlier current : Log) (steps : Steps) (slot : Slot) (w : WorldValue) (inside : InCycle M earlier current steps slot (slot_index slot) (slot_index slot) w) where
   abbrev n : ℕ
   n = w.done
 
   abbrev K : Log
-  K = L ++ now
+  K = earlier ++ current
 
   abbrev past : Past
   past = cycles_before M K n
@@ -212,10 +212,10 @@ module _ (M : MissionValue) (L now : Log) (steps : Steps) (slot : Slot) (w : Wor
   run : HasRun M K n
   run =
       record {
-        before = L;
-        later = now;
+        before = earlier;
+        later = current;
         entries = refl;
-        after = from_now n now (of_cycle M past e steps n (carries_done n e (slot_index slot)) now (all-flat_map (λ (carry : Carry). carry.cycle == n) (slot_carries n e) (take (slot_index slot) every_slot) (carries_of n e)) inside.current);
+        after = from_now n current (of_cycle M past e steps n (carries_done n e (slot_index slot)) current (all-flat_map (λ (carry : Carry). carry.cycle == n) (slot_carries n e) (take (slot_index slot) every_slot) (carries_of n e)) inside.made);
         due = inside.before;
         unstopped = inside.unstopped;
       }
@@ -394,27 +394,27 @@ module _ (M : MissionValue) (L now : Log) (steps : Steps) (slot : Slot) (w : Wor
 
 -- ---- as the law has them
 
-pub nodes_stand : (M : MissionValue) (L now : Log) (steps : Steps) (slot : Slot) (w : WorldValue) → InCycle M L now steps slot (slot_index slot) (slot_index slot) w →
-    All (StandsForReceived (λ q. received_through M (cycles_before M (L ++ now) w.done) (cycle_at M (L ++ now) w.done) (slot_index slot) q)) w.nodes
-nodes_stand M L now steps slot w inside = all_stand M L now steps slot w inside
+pub nodes_stand : (M : MissionValue) (earlier current : Log) (steps : Steps) (slot : Slot) (w : WorldValue) → InCycle M earlier current steps slot (slot_index slot) (slot_index slot) w →
+    All (StandsForReceived (λ q. received_through M (cycles_before M (earlier ++ current) w.done) (cycle_at M (earlier ++ current) w.done) (slot_index slot) q)) w.nodes
+nodes_stand M earlier current steps slot w inside = all_stand M earlier current steps slot w inside
 
-pub nodes_may_send : (M : MissionValue) (L now : Log) (steps : Steps) (slot : Slot) (w : WorldValue) → InCycle M L now steps slot (slot_index slot) (slot_index slot) w →
-    (slot ≡ Sweep → AreFull M (cycles_before M (L ++ now) w.done) (cycle_at M (L ++ now) w.done) steps) →
-    All (MaySend M w.done slot (λ q. received_through M (cycles_before M (L ++ now) w.done) (cycle_at M (L ++ now) w.done) (slot_index slot) q)) w.nodes
-nodes_may_send M L now steps slot w inside full = all_may_send M L now steps slot w inside full
+pub nodes_may_send : (M : MissionValue) (earlier current : Log) (steps : Steps) (slot : Slot) (w : WorldValue) → InCycle M earlier current steps slot (slot_index slot) (slot_index slot) w →
+    (slot ≡ Sweep → AreFull M (cycles_before M (earlier ++ current) w.done) (cycle_at M (earlier ++ current) w.done) steps) →
+    All (MaySend M w.done slot (λ q. received_through M (cycles_before M (earlier ++ current) w.done) (cycle_at M (earlier ++ current) w.done) (slot_index slot) q)) w.nodes
+nodes_may_send M earlier current steps slot w inside full = all_may_send M earlier current steps slot w inside full
 
-pub sent_whole : (M : MissionValue) (L now new : Log) (steps : Steps) (slot : Slot) (to : List ℕ) (w : WorldValue) → InCycle M L now steps slot (slot_index slot) (slot_index slot) w →
-    (slot ≡ Sweep → AreFull M (cycles_before M (L ++ now) w.done) (cycle_at M (L ++ now) w.done) steps) → receivers (cycle_at M (L ++ now) w.done) slot ≡ to →
-    AllZip IsEntryOf (all_sends M w.done slot to (λ q. received_through M (cycles_before M (L ++ now) w.done) (cycle_at M (L ++ now) w.done) (slot_index slot) q) w.nodes) new →
-    AllZip (λ carry entry. IsMadeBy M (cycles_before M (L ++ now) w.done) (cycle_at M (L ++ now) w.done) (steps_of steps carry.from) carry entry) (slot_carries w.done (cycle_at M (L ++ now) w.done) slot) new
-sent_whole M L now new steps slot to w inside full same sent =
-    all_made M L now steps slot w inside full new
-    (subst (λ xs. AllZip IsEntryOf (all_sends M w.done slot xs (λ q. received_through M (cycles_before M (L ++ now) w.done) (cycle_at M (L ++ now) w.done) (slot_index slot) q) w.nodes) new) (sym same) sent)
+pub sent_whole : (M : MissionValue) (earlier current new : Log) (steps : Steps) (slot : Slot) (to : List ℕ) (w : WorldValue) → InCycle M earlier current steps slot (slot_index slot) (slot_index slot) w →
+    (slot ≡ Sweep → AreFull M (cycles_before M (earlier ++ current) w.done) (cycle_at M (earlier ++ current) w.done) steps) → receivers (cycle_at M (earlier ++ current) w.done) slot ≡ to →
+    AllZip IsEntryOf (all_sends M w.done slot to (λ q. received_through M (cycles_before M (earlier ++ current) w.done) (cycle_at M (earlier ++ current) w.done) (slot_index slot) q) w.nodes) new →
+    AllZip (λ carry entry. IsMadeBy M (cycles_before M (earlier ++ current) w.done) (cycle_at M (earlier ++ current) w.done) (steps_of steps carry.from) carry entry) (slot_carries w.done (cycle_at M (earlier ++ current) w.done) slot) new
+sent_whole M earlier current new steps slot to w inside full same sent =
+    all_made M earlier current steps slot w inside full new
+    (subst (λ xs. AllZip IsEntryOf (all_sends M w.done slot xs (λ q. received_through M (cycles_before M (earlier ++ current) w.done) (cycle_at M (earlier ++ current) w.done) (slot_index slot) q) w.nodes) new) (sym same) sent)
 
-pub sent_few : (M : MissionValue) (L now new : Log) (steps : Steps) (slot : Slot) (to : List ℕ) (number : ℕ) (w : WorldValue) → InCycle M L now steps slot (slot_index slot) (slot_index slot) w →
-    (slot ≡ Sweep → AreFull M (cycles_before M (L ++ now) w.done) (cycle_at M (L ++ now) w.done) steps) → receivers (cycle_at M (L ++ now) w.done) slot ≡ to →
-    AllZip IsEntryOf (take number (all_sends M w.done slot to (λ q. received_through M (cycles_before M (L ++ now) w.done) (cycle_at M (L ++ now) w.done) (slot_index slot) q) w.nodes)) new →
-    AllZip (λ carry entry. IsMadeBy M (cycles_before M (L ++ now) w.done) (cycle_at M (L ++ now) w.done) (steps_of steps carry.from) carry entry) (take number (slot_carries w.done (cycle_at M (L ++ now) w.done) slot)) new
-sent_few M L now new steps slot to number w inside full same sent =
-    few_made M L now steps slot w inside full number new
-    (subst (λ xs. AllZip IsEntryOf (take number (all_sends M w.done slot xs (λ q. received_through M (cycles_before M (L ++ now) w.done) (cycle_at M (L ++ now) w.done) (slot_index slot) q) w.nodes)) new) (sym same) sent)
+pub sent_few : (M : MissionValue) (earlier current new : Log) (steps : Steps) (slot : Slot) (to : List ℕ) (number : ℕ) (w : WorldValue) → InCycle M earlier current steps slot (slot_index slot) (slot_index slot) w →
+    (slot ≡ Sweep → AreFull M (cycles_before M (earlier ++ current) w.done) (cycle_at M (earlier ++ current) w.done) steps) → receivers (cycle_at M (earlier ++ current) w.done) slot ≡ to →
+    AllZip IsEntryOf (take number (all_sends M w.done slot to (λ q. received_through M (cycles_before M (earlier ++ current) w.done) (cycle_at M (earlier ++ current) w.done) (slot_index slot) q) w.nodes)) new →
+    AllZip (λ carry entry. IsMadeBy M (cycles_before M (earlier ++ current) w.done) (cycle_at M (earlier ++ current) w.done) (steps_of steps carry.from) carry entry) (take number (slot_carries w.done (cycle_at M (earlier ++ current) w.done) slot)) new
+sent_few M earlier current new steps slot to number w inside full same sent =
+    few_made M earlier current steps slot w inside full number new
+    (subst (λ xs. AllZip IsEntryOf (take number (all_sends M w.done slot xs (λ q. received_through M (cycles_before M (earlier ++ current) w.done) (cycle_at M (earlier ++ current) w.done) (slot_index slot) q) w.nodes)) new) (sym same) sent)

@@ -102,17 +102,17 @@ ledger_of M slot o =
       damaged = channels_where (λ q. has o.damaged q && is_up (place_or (place_or o.modes (slot_index slot) []) q down));
     }
 
-module _ (M : MissionValue) (L now new : Log) (steps : Steps) (slot : Slot) (w : WorldValue) (on : on_bus slot ≡ true)
-    (inside : InCycle M L now steps slot (slot_index slot) (slot_index slot) w)
-    (carried : AreDueCarries M (L ++ now) w.done steps (slot_carries w.done (cycle_at M (L ++ now) w.done) slot) new) where
+module _ (M : MissionValue) (earlier current new : Log) (steps : Steps) (slot : Slot) (w : WorldValue) (on : on_bus slot ≡ true)
+    (inside : InCycle M earlier current steps slot (slot_index slot) (slot_index slot) w)
+    (carried : AreDueCarries M (earlier ++ current) w.done steps (slot_carries w.done (cycle_at M (earlier ++ current) w.done) slot) new) where
   abbrev n : ℕ
   n = w.done
 
   abbrev K : Log
-  K = L ++ now
+  K = earlier ++ current
 
   abbrev longer : Log
-  longer = L ++ (now ++ new)
+  longer = earlier ++ (current ++ new)
 
   abbrev e : Cycle
   e = cycle_at M K n
@@ -124,26 +124,26 @@ module _ (M : MissionValue) (L now new : Log) (steps : Steps) (slot : Slot) (w :
   late = placed M (cycles_before M K n) e steps n slot (slot_carries n e slot) new (placed_carries n e slot) carried
 
   opening_same : x.opening ≡ e.opening
-  opening_same = subst (λ (X : Log). (cycle_at M X n).opening ≡ e.opening) (append_assoc L now new) (opening_later M K new n (slot_index slot) late)
+  opening_same = subst (λ (X : Log). (cycle_at M X n).opening ≡ e.opening) (append_assoc earlier current new) (opening_later M K new n (slot_index slot) late)
 
   past_same : cycles_before M longer n ≡ cycles_before M K n
-  past_same = subst (λ (X : Log). cycles_before M X n ≡ cycles_before M K n) (append_assoc L now new) (cycles_before-append M K new n (from_cycle n (slot_index slot) new late))
+  past_same = subst (λ (X : Log). cycles_before M X n ≡ cycles_before M K n) (append_assoc earlier current new) (cycles_before-append M K new n (from_cycle n (slot_index slot) new late))
 
-  these : list_all (λ (y : EntryValue). y.cycle == n) (now ++ new) ≡ true
+  these : list_all (λ (y : EntryValue). y.cycle == n) (current ++ new) ≡ true
   these =
-      all-append (λ (y : EntryValue). y.cycle == n) now new
-      (of_cycle M K n steps (carries_done n e (slot_index slot)) now (all-flat_map (λ (carry : Carry). carry.cycle == n) (slot_carries n e) (take (slot_index slot) every_slot) (carries_of n e)) inside.current)
+      all-append (λ (y : EntryValue). y.cycle == n) current new
+      (of_cycle M K n steps (carries_done n e (slot_index slot)) current (all-flat_map (λ (carry : Carry). carry.cycle == n) (slot_carries n e) (take (slot_index slot) every_slot) (carries_of n e)) inside.made)
       (of_cycle M K n steps (slot_carries n e slot) new (carries_of n e slot) carried)
 
-  entries_are : x.entries ≡ now ++ new
+  entries_are : x.entries ≡ current ++ new
   entries_are =
       let P : Past = cycles_before M longer n in
-      let before : AreDue M P L = subst (λ (p : Past). AreDue M p L) (sym past_same) inside.before in
+      let before : AreDue M P earlier = subst (λ (p : Past). AreDue M p earlier) (sym past_same) inside.before in
       entries_now M longer P
-      ∙ filter-append (λ (y : EntryValue). y.cycle == length P) L (now ++ new)
-      ∙ ap (λ es. es ++ entries_of (length P) (now ++ new)) (entries_of-earlier (length P) L (due_earlier M P L before))
-      ∙ ap (λ m. entries_of m (now ++ new)) (length-cycles_before M longer n)
-      ∙ entries_of-all n (now ++ new) these
+      ∙ filter-append (λ (y : EntryValue). y.cycle == length P) earlier (current ++ new)
+      ∙ ap (λ es. es ++ entries_of (length P) (current ++ new)) (entries_of-earlier (length P) earlier (due_earlier M P earlier before))
+      ∙ ap (λ m. entries_of m (current ++ new)) (length-cycles_before M longer n)
+      ∙ entries_of-all n (current ++ new) these
 
   -- ---- who is charged
 
@@ -153,27 +153,27 @@ module _ (M : MissionValue) (L now new : Log) (steps : Steps) (slot : Slot) (w :
   new_slots : list_all (λ (y : EntryValue). up_to_slot y.slot) new ≡ true
   new_slots = slots_of M K n steps up_to_slot (slot_carries n e slot) new (in_slot n e slot up_to_slot (le-leb (slot_index slot) (slot_index slot) (omega arith))) carried
 
-  now_slots : list_all (λ (y : EntryValue). up_to_slot y.slot) now ≡ true
+  now_slots : list_all (λ (y : EntryValue). up_to_slot y.slot) current ≡ true
   now_slots =
-      slots_of M K n steps up_to_slot (carries_done n e (slot_index slot)) now
+      slots_of M K n steps up_to_slot (carries_done n e (slot_index slot)) current
       (all_of_flat (λ (carry : Carry). up_to_slot carry.slot) (λ s. nat_lt (slot_index s) (slot_index slot)) (slot_carries n e) (take (slot_index slot) every_slot) (earlier_slots slot on)
       (λ s h. in_slot n e s up_to_slot (le-leb (slot_index s) (slot_index slot) (omega (arith, leb-true (suc (slot_index s)) (slot_index slot) h)))))
-      inside.current
+      inside.made
 
   module _ (active charged marked : ChannelSet) (active_is : active ≡ e.active)
-      (charged_are : (q : Channel) → q < 7 → has charged q ≡ list_any (is_charge n Switch q) now)
+      (charged_are : (q : Channel) → q < 7 → has charged q ≡ list_any (is_charge n Switch q) current)
       (marked_are : (q : Channel) → q < 7 → has marked q ≡ (has charged q || list_any (is_charge n slot q) new)) where
-    all_charged : (q : Channel) → q < 7 → has marked q ≡ list_any (is_charge n Switch q) (now ++ new)
+    all_charged : (q : Channel) → q < 7 → has marked q ≡ list_any (is_charge n Switch q) (current ++ new)
     all_charged q low =
         marked_are q low
         ∙ ap (λ b. b || list_any (is_charge n slot q) new) (charged_are q low)
-        ∙ ap (λ b. list_any (is_charge n Switch q) now || b) (same_charge n slot q new (place_low slot on) new_slots)
-        ∙ sym (list_any-append (is_charge n Switch q) now new)
+        ∙ ap (λ b. list_any (is_charge n Switch q) current || b) (same_charge n slot q new (place_low slot on) new_slots)
+        ∙ sym (list_any-append (is_charge n Switch q) current new)
 
     in_facts : (q : Channel) → q < 7 → has marked q ≡ list_any (is_charge n slot q) x.entries
     in_facts q low =
         all_charged q low
-        ∙ sym (same_charge n slot q (now ++ new) (place_low slot on) (all-append (λ (y : EntryValue). up_to_slot y.slot) now new now_slots new_slots))
+        ∙ sym (same_charge n slot q (current ++ new) (place_low slot on) (all-append (λ (y : EntryValue). up_to_slot y.slot) current new now_slots new_slots))
         ∙ ap (list_any (is_charge n slot q)) (sym entries_are)
 
     active_same : active ≡ x.active
@@ -182,7 +182,7 @@ module _ (M : MissionValue) (L now new : Log) (steps : Steps) (slot : Slot) (w :
     ledger_same : w.ledger ≡ ledger_in M x slot
     ledger_same = inside.ledger ∙ ap (ledger_of M slot) (sym opening_same)
 
-    ends : SlotEnds M L now new steps slot active marked w
+    ends : SlotEnds M earlier current new steps slot active marked w
     ends =
         record {
           entries = entries_are;
@@ -190,11 +190,11 @@ module _ (M : MissionValue) (L now new : Log) (steps : Steps) (slot : Slot) (w :
           charged = all_charged;
           disturbed = ap (λ (s : ChannelSet). disturbed_by s marked w.ledger) active_same ∙ ap (disturbed_by x.active marked) ledger_same ∙ disturbed_are M longer n inside.ranges slot marked in_facts;
           halts = ap (λ (s : ChannelSet). limit_reached s marked w.ledger) active_same ∙ ap (limit_reached x.active marked) ledger_same ∙ stop_is M longer n inside.ranges slot marked in_facts;
-          full = λ passed were. subst (λ (X : Log). AreFull M (cycles_before M X n) (cycle_at M X n) steps) (append_assoc L now new) (full_later M K new n (slot_index slot) late (omega (arith, passed)) steps were);
+          full = λ passed were. subst (λ (X : Log). AreFull M (cycles_before M X n) (cycle_at M X n) steps) (append_assoc earlier current new) (full_later M K new n (slot_index slot) late (omega (arith, passed)) steps were);
         }
 
-pub slot_ends : (M : MissionValue) (L now new : Log) (steps : Steps) (slot : Slot) (active charged marked : ChannelSet) (w : WorldValue) → on_bus slot ≡ true →
-    InCycle M L now steps slot (slot_index slot) (slot_index slot) w → AreDueCarries M (L ++ now) w.done steps (slot_carries w.done (cycle_at M (L ++ now) w.done) slot) new →
-    active ≡ (cycle_at M (L ++ now) w.done).active → ((q : Channel) → q < 7 → has charged q ≡ list_any (is_charge w.done Switch q) now) →
-    ((q : Channel) → q < 7 → has marked q ≡ (has charged q || list_any (is_charge w.done slot q) new)) → SlotEnds M L now new steps slot active marked w
-slot_ends M L now new steps slot active charged marked w on inside carried active_is charged_are marked_are = ends M L now new steps slot w on inside carried active charged marked active_is charged_are marked_are
+pub slot_ends : (M : MissionValue) (earlier current new : Log) (steps : Steps) (slot : Slot) (active charged marked : ChannelSet) (w : WorldValue) → on_bus slot ≡ true →
+    InCycle M earlier current steps slot (slot_index slot) (slot_index slot) w → AreDueCarries M (earlier ++ current) w.done steps (slot_carries w.done (cycle_at M (earlier ++ current) w.done) slot) new →
+    active ≡ (cycle_at M (earlier ++ current) w.done).active → ((q : Channel) → q < 7 → has charged q ≡ list_any (is_charge w.done Switch q) current) →
+    ((q : Channel) → q < 7 → has marked q ≡ (has charged q || list_any (is_charge w.done slot q) new)) → SlotEnds M earlier current new steps slot active marked w
+slot_ends M earlier current new steps slot active charged marked w on inside carried active_is charged_are marked_are = ends M earlier current new steps slot w on inside carried active charged marked active_is charged_are marked_are

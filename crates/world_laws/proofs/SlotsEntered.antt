@@ -48,7 +48,7 @@ enters_cycle w L steps stands below unspent =
       count = sym stands.count ∙ omega arith;
       before = subst (λ (K : Log). AreDue w.mission (cycles_before w.mission K w.done) L) same stands.due;
       unstopped = subst (λ (K : Log). stop_of (cycles_before w.mission K w.done) ≡ None) same stands.unstopped;
-      current = tt;
+      made = tt;
       unhalted = λ s early. absurd (omega (arith, early));
       nodes = refl;
       ledger = refl;
@@ -56,9 +56,9 @@ enters_cycle w L steps stands below unspent =
     }
 
 -- a slot is entered, or what it carried is handed over
-pub enters_slot : (M : MissionValue) (L now : Log) (steps : Steps) (slot next : Slot) (carried handed more : ℕ) (w : WorldValue) →
-    InCycle M L now steps slot carried handed w → InCycle M L now steps next carried more (world_in M (L ++ now) steps next more w)
-enters_slot M L now steps slot next carried handed more w inside =
+pub enters_slot : (M : MissionValue) (earlier current : Log) (steps : Steps) (slot next : Slot) (carried handed more : ℕ) (w : WorldValue) →
+    InCycle M earlier current steps slot carried handed w → InCycle M earlier current steps next carried more (world_in M (earlier ++ current) steps next more w)
+enters_slot M earlier current steps slot next carried handed more w inside =
     record {
       mission = inside.mission;
       ranges = inside.ranges;
@@ -67,7 +67,7 @@ enters_slot M L now steps slot next carried handed more w inside =
       count = inside.count;
       before = inside.before;
       unstopped = inside.unstopped;
-      current = inside.current;
+      made = inside.made;
       unhalted = inside.unhalted;
       nodes = refl;
       ledger = refl;
@@ -190,14 +190,14 @@ this_or_earlier : (s slot : Slot) (P : Slot → Type 0) (same : Bool) → (slot_
 this_or_earlier s slot P true is early before here = subst P (sym (one_place s slot (eqb-true (slot_index s) (slot_index slot) is))) here
 this_or_earlier s slot P false is early before here = before s (grind (arith, early, is))
 
-module _ (M : MissionValue) (L now new : Log) (steps : Steps) (slot : Slot) (on : on_bus slot ≡ true) (w : WorldValue)
-    (inside : InCycle M L now steps slot (slot_index slot) (slot_index slot) w) (few : ℕ)
-    (carried : AreDueCarries M (L ++ now) w.done steps (take few (slot_carries w.done (cycle_at M (L ++ now) w.done) slot)) new) where
+module _ (M : MissionValue) (earlier current new : Log) (steps : Steps) (slot : Slot) (on : on_bus slot ≡ true) (w : WorldValue)
+    (inside : InCycle M earlier current steps slot (slot_index slot) (slot_index slot) w) (few : ℕ)
+    (carried : AreDueCarries M (earlier ++ current) w.done steps (take few (slot_carries w.done (cycle_at M (earlier ++ current) w.done) slot)) new) where
   abbrev n : ℕ
   n = w.done
 
   abbrev K : Log
-  K = L ++ now
+  K = earlier ++ current
 
   abbrev past : Past
   past = cycles_before M K n
@@ -221,28 +221,28 @@ module _ (M : MissionValue) (L now new : Log) (steps : Steps) (slot : Slot) (on 
   more = cycle_from M (entries_of (length past) K ++ entries_of (length past) new) past
 
   -- what holds of the past and of the cycle with the new entries
-  at_log : (Φ : Past → Cycle → Type 0) → Φ past more → Φ (cycles_before M (L ++ (now ++ new)) n) (cycle_at M (L ++ (now ++ new)) n)
-  at_log Φ h = subst (λ (X : Log). Φ (cycles_before M X n) (cycle_at M X n)) (append_assoc L now new) (grown M K new n steps slot on late Φ h)
+  at_log : (Φ : Past → Cycle → Type 0) → Φ past more → Φ (cycles_before M (earlier ++ (current ++ new)) n) (cycle_at M (earlier ++ (current ++ new)) n)
+  at_log Φ h = subst (λ (X : Log). Φ (cycles_before M X n) (cycle_at M X n)) (append_assoc earlier current new) (grown M K new n steps slot on late Φ h)
 
-  made : AllZip (λ carry entry. IsMadeBy M past more (steps_of steps carry.from) carry entry) (carries_done n more (slot_index slot) ++ take few (slot_carries n more slot)) (now ++ new)
+  made : AllZip (λ carry entry. IsMadeBy M past more (steps_of steps carry.from) carry entry) (carries_done n more (slot_index slot) ++ take few (slot_carries n more slot)) (current ++ new)
   made =
-      zip_append (λ carry entry. IsMadeBy M past more (steps_of steps carry.from) carry entry) (carries_done n more (slot_index slot)) (take few (slot_carries n more slot)) now new
-      (stay_made M K new n steps slot on late now inside.current) (stay_new M K new n steps slot on late few carried)
+      zip_append (λ carry entry. IsMadeBy M past more (steps_of steps carry.from) carry entry) (carries_done n more (slot_index slot)) (take few (slot_carries n more slot)) current new
+      (stay_made M K new n steps slot on late current inside.made) (stay_new M K new n steps slot on late few carried)
 
-  nodes_same : w.nodes ≡ map (node_in M (L ++ (now ++ new)) n steps slot (slot_index slot)) (channels_of M)
+  nodes_same : w.nodes ≡ map (node_in M (earlier ++ (current ++ new)) n steps slot (slot_index slot)) (channels_of M)
   nodes_same =
       inside.nodes
       ∙ ap (λ (f : Channel → NodeValue). map f (channels_of M)) (fun_ext (λ q. sym (node_stays M K new n steps slot (slot_index slot) q late)))
-      ∙ ap (λ (X : Log). map (node_in M X n steps slot (slot_index slot)) (channels_of M)) (append_assoc L now new)
+      ∙ ap (λ (X : Log). map (node_in M X n steps slot (slot_index slot)) (channels_of M)) (append_assoc earlier current new)
 
-  unhalted_before : (s : Slot) → slot_index s < slot_index slot → halts n (cycle_at M (L ++ (now ++ new)) n) s ≡ false
+  unhalted_before : (s : Slot) → slot_index s < slot_index slot → halts n (cycle_at M (earlier ++ (current ++ new)) n) s ≡ false
   unhalted_before s early = at_log (λ p x. halts n x s ≡ false) (halts_same M K new n steps slot on late s early ∙ inside.unhalted s early)
 
-  ledger_kept : w.ledger ≡ ledger_in M (cycle_at M (L ++ (now ++ new)) n) slot
+  ledger_kept : w.ledger ≡ ledger_in M (cycle_at M (earlier ++ (current ++ new)) n) slot
   ledger_kept = at_log (λ p x. w.ledger ≡ ledger_in M x slot) (inside.ledger ∙ sym (ledger_same M K new n steps slot on late slot))
 
   abbrev after : Cycle
-  after = cycle_at M (L ++ (now ++ new)) n
+  after = cycle_at M (earlier ++ (current ++ new)) n
 
   next_carries : slot_carries n e slot ≡ slot_carries n more slot
   next_carries = carries_same M K new n steps slot on late n (is_n M K new n steps slot on late) slot (le-leb (slot_index slot) (slot_index slot) (omega arith))
@@ -252,23 +252,23 @@ module _ (M : MissionValue) (L now new : Log) (steps : Steps) (slot : Slot) (on 
     all_of_slot : take few (slot_carries n more slot) ≡ slot_carries n more slot
     all_of_slot = ap (take few) (sym next_carries) ∙ ap (λ k. take k (slot_carries n e slot)) all ∙ take_all (slot_carries n e slot) ∙ next_carries
 
-    made_all : AreDueCarries M (L ++ (now ++ new)) n steps (carries_done n after (suc (slot_index slot))) (now ++ new)
+    made_all : AreDueCarries M (earlier ++ (current ++ new)) n steps (carries_done n after (suc (slot_index slot))) (current ++ new)
     made_all =
-        at_log (λ p x. AllZip (λ carry entry. IsMadeBy M p x (steps_of steps carry.from) carry entry) (carries_done n x (suc (slot_index slot))) (now ++ new))
-        (subst (λ carries. AllZip (λ carry entry. IsMadeBy M past more (steps_of steps carry.from) carry entry) carries (now ++ new))
+        at_log (λ p x. AllZip (λ carry entry. IsMadeBy M p x (steps_of steps carry.from) carry entry) (carries_done n x (suc (slot_index slot))) (current ++ new))
+        (subst (λ carries. AllZip (λ carry entry. IsMadeBy M past more (steps_of steps carry.from) carry entry) carries (current ++ new))
         (ap (λ xs. carries_done n more (slot_index slot) ++ xs) all_of_slot ∙ sym (carries_next n more slot on)) made)
 
-    pub carries_slot : halts n after slot ≡ false → InCycle M L (now ++ new) steps slot (suc (slot_index slot)) (slot_index slot) (world_carried (length new) w)
+    pub carries_slot : halts n after slot ≡ false → InCycle M earlier (current ++ new) steps slot (suc (slot_index slot)) (slot_index slot) (world_carried (length new) w)
     carries_slot goes =
         record {
           mission = inside.mission;
           ranges = inside.ranges;
           below = inside.below;
           unspent = inside.unspent;
-          count = ap (λ k. k + length new) inside.count ∙ sum (length L) (length now) (length new) ∙ ap (λ k. length L + k) (sym (length-append now new));
-          before = at_log (λ p x. AreDue M p L) inside.before;
+          count = ap (λ k. k + length new) inside.count ∙ sum (length earlier) (length current) (length new) ∙ ap (λ k. length earlier + k) (sym (length-append current new));
+          before = at_log (λ p x. AreDue M p earlier) inside.before;
           unstopped = at_log (λ p x. stop_of p ≡ None) inside.unstopped;
-          current = made_all;
+          made = made_all;
           unhalted = λ s early. this_or_earlier s slot (λ t. halts n after t ≡ false) (slot_index s == slot_index slot) refl early unhalted_before goes;
           nodes = nodes_same;
           ledger = ledger_kept;
@@ -278,31 +278,31 @@ module _ (M : MissionValue) (L now new : Log) (steps : Steps) (slot : Slot) (on 
         sum : (a b d : ℕ) → (a + b) + d ≡ a + (b + d)
         sum a b d = omega arith
 
-    pub stops_slot : halts n after slot ≡ true → IsStopIn M L (now ++ new) n steps slot
+    pub stops_slot : halts n after slot ≡ true → IsStopIn M earlier (current ++ new) n steps slot
     stops_slot halted =
         record {
-          due = subst (λ carries. AreDueCarries M (L ++ (now ++ new)) n steps carries (now ++ new)) (ap (flat_map (slot_carries n after)) (sym (through_slot slot on))) made_all;
+          due = subst (λ carries. AreDueCarries M (earlier ++ (current ++ new)) n steps carries (current ++ new)) (ap (flat_map (slot_carries n after)) (sym (through_slot slot on))) made_all;
           stops = ap (option_map (λ s. record { cycle = n; slot = s; set = disturbed_channels n after s; active = after.active })) (found (halts n after) slot on unhalted_before halted);
           before = at_log (λ p x. stop_of p ≡ None) inside.unstopped;
         }
 
-    cycle_entries : after.entries ≡ now ++ new
+    cycle_entries : after.entries ≡ current ++ new
     cycle_entries =
-        let longer : Log = L ++ (now ++ new) in
+        let longer : Log = earlier ++ (current ++ new) in
         let P : Past = cycles_before M longer n in
         let size : length P ≡ n = length-cycles_before M longer n in
-        let due : AllZip (IsDue M P after) (carries_done n after (suc (slot_index slot))) (now ++ new) =
-        zip_map (λ carry entry. IsMadeBy M P after (steps_of steps carry.from) carry entry) (IsDue M P after) (carries_done n after (suc (slot_index slot))) (now ++ new)
+        let due : AllZip (IsDue M P after) (carries_done n after (suc (slot_index slot))) (current ++ new) =
+        zip_map (λ carry entry. IsMadeBy M P after (steps_of steps carry.from) carry entry) (IsDue M P after) (carries_done n after (suc (slot_index slot))) (current ++ new)
         (λ carry entry h. made_is_due M P after (steps_of steps carry.from) carry entry h) made_all in
-        let these : list_all (λ (x : EntryValue). x.cycle == n) (now ++ new) ≡ true =
-        entries_cycle M P after n (carries_done n after (suc (slot_index slot))) (now ++ new) due
+        let these : list_all (λ (x : EntryValue). x.cycle == n) (current ++ new) ≡ true =
+        entries_cycle M P after n (carries_done n after (suc (slot_index slot))) (current ++ new) due
         (all-flat_map (λ (x : Carry). x.cycle == n) (slot_carries n after) (take (suc (slot_index slot)) every_slot) (carries_of n after)) in
-        let before : AreDue M P L = at_log (λ p x. AreDue M p L) inside.before in
+        let before : AreDue M P earlier = at_log (λ p x. AreDue M p earlier) inside.before in
         entries_now M longer P
-        ∙ filter-append (λ (x : EntryValue). x.cycle == length P) L (now ++ new)
-        ∙ ap (λ es. es ++ entries_of (length P) (now ++ new)) (entries_of-earlier (length P) L (earlier_entries M P L before))
-        ∙ ap (λ m. entries_of m (now ++ new)) size
-        ∙ entries_of-all n (now ++ new) these
+        ∙ filter-append (λ (x : EntryValue). x.cycle == length P) earlier (current ++ new)
+        ∙ ap (λ es. es ++ entries_of (length P) (current ++ new)) (entries_of-earlier (length P) earlier (earlier_entries M P earlier before))
+        ∙ ap (λ m. entries_of m (current ++ new)) size
+        ∙ entries_of-all n (current ++ new) these
 
     carried_all : AreDueCarries M K n steps (slot_carries n e slot) new
     carried_all = subst (λ carries. AreDueCarries M K n steps carries new) (ap (λ k. take k (slot_carries n e slot)) all ∙ take_all (slot_carries n e slot)) carried
@@ -311,39 +311,39 @@ module _ (M : MissionValue) (L now new : Log) (steps : Steps) (slot : Slot) (on 
     pub arrives_slot : AllZip (Arrives M after.entries) (slot_carries n e slot) new
     arrives_slot =
         subst (λ entries. AllZip (Arrives M entries) (slot_carries n e slot) new) (sym cycle_entries)
-        (arrives M past e steps (slot_carries n e slot) (slot_index slot) now new (carries_apart M K n n inside.ranges slot)
+        (arrives M past e steps (slot_carries n e slot) (slot_index slot) current new (carries_apart M K n n inside.ranges slot)
         (in_slot n e slot (λ s. nat_le (slot_index slot) (slot_index s)) (le-leb (slot_index slot) (slot_index slot) (omega arith)))
-        (slots_made M past e steps (λ s. nat_lt (slot_index s) (slot_index slot)) (carries_done n e (slot_index slot)) now (done_before n e slot on) inside.current)
+        (slots_made M past e steps (λ s. nat_lt (slot_index s) (slot_index slot)) (carries_done n e (slot_index slot)) current (done_before n e slot on) inside.made)
         carried_all)
 
     -- it is read from the entries of the slot alone
     pub alone : (from to : ℕ) → received_body M after.entries n slot from to ≡ received_body M new n slot from to
     alone from to =
         ap (λ entries. received_body M entries n slot from to) cycle_entries
-        ∙ slot_alone M n slot from to now new
-        (slots_made M past e steps (λ s. nat_lt (slot_index s) (slot_index slot)) (carries_done n e (slot_index slot)) now (done_before n e slot on) inside.current)
+        ∙ slot_alone M n slot from to current new
+        (slots_made M past e steps (λ s. nat_lt (slot_index s) (slot_index slot)) (carries_done n e (slot_index slot)) current (done_before n e slot on) inside.made)
 
     -- and nothing else is received in the slot
     pub nothing_else_arrives : (from to : ℕ) → list_any (is_carry_between from to) (slot_carries n e slot) ≡ false → received_body M after.entries n slot from to ≡ None
     nothing_else_arrives from to absent =
         ap (λ entries. received_body M entries n slot from to) cycle_entries
-        ∙ nothing_else M past e steps n slot from to (slot_carries n e slot) now new absent
-        (slots_made M past e steps (λ s. nat_lt (slot_index s) (slot_index slot)) (carries_done n e (slot_index slot)) now (done_before n e slot on) inside.current)
+        ∙ nothing_else M past e steps n slot from to (slot_carries n e slot) current new absent
+        (slots_made M past e steps (λ s. nat_lt (slot_index s) (slot_index slot)) (carries_done n e (slot_index slot)) current (done_before n e slot on) inside.made)
         carried_all
 
   -- as far as it was carried, it is a front of the due entries
-  pub breaks_slot : IsFront M L (now ++ new) n
+  pub breaks_slot : IsFront M earlier (current ++ new) n
   breaks_slot =
-      at_log (λ p x. AllZip (IsDue M p x) (take (length (now ++ new)) (cycle_carries n x)) (now ++ new))
-      (subst (λ carries. AllZip (IsDue M past more) carries (now ++ new)) front due)
+      at_log (λ p x. AllZip (IsDue M p x) (take (length (current ++ new)) (cycle_carries n x)) (current ++ new))
+      (subst (λ carries. AllZip (IsDue M past more) carries (current ++ new)) front due)
     where
-      due : AllZip (IsDue M past more) (carries_done n more (slot_index slot) ++ take few (slot_carries n more slot)) (now ++ new)
+      due : AllZip (IsDue M past more) (carries_done n more (slot_index slot) ++ take few (slot_carries n more slot)) (current ++ new)
       due =
-          zip_map (λ carry entry. IsMadeBy M past more (steps_of steps carry.from) carry entry) (IsDue M past more) (carries_done n more (slot_index slot) ++ take few (slot_carries n more slot)) (now ++ new)
+          zip_map (λ carry entry. IsMadeBy M past more (steps_of steps carry.from) carry entry) (IsDue M past more) (carries_done n more (slot_index slot) ++ take few (slot_carries n more slot)) (current ++ new)
           (λ carry entry h. made_is_due M past more (steps_of steps carry.from) carry entry h) made
 
-      size : length (now ++ new) ≡ length (carries_done n more (slot_index slot)) + length (take few (slot_carries n more slot))
-      size = zip_length (IsDue M past more) (carries_done n more (slot_index slot) ++ take few (slot_carries n more slot)) (now ++ new) due ∙ length-append (carries_done n more (slot_index slot)) (take few (slot_carries n more slot))
+      size : length (current ++ new) ≡ length (carries_done n more (slot_index slot)) + length (take few (slot_carries n more slot))
+      size = zip_length (IsDue M past more) (carries_done n more (slot_index slot) ++ take few (slot_carries n more slot)) (current ++ new) due ∙ length-append (carries_done n more (slot_index slot)) (take few (slot_carries n more slot))
 
       rest : List Carry
       rest = flat_map (slot_carries n more) (drop (suc (slot_index slot)) every_slot)
@@ -355,50 +355,50 @@ module _ (M : MissionValue) (L now new : Log) (steps : Steps) (slot : Slot) (on 
           ∙ ap (λ xs. xs ++ rest) (carries_next n more slot on)
           ∙ append_assoc (carries_done n more (slot_index slot)) (slot_carries n more slot) rest
 
-      front : carries_done n more (slot_index slot) ++ take few (slot_carries n more slot) ≡ take (length (now ++ new)) (cycle_carries n more)
+      front : carries_done n more (slot_index slot) ++ take few (slot_carries n more slot) ≡ take (length (current ++ new)) (cycle_carries n more)
       front =
           ap (λ xs. carries_done n more (slot_index slot) ++ xs) (sym (front_of few (slot_carries n more slot) rest))
           ∙ sym (front_past (carries_done n more (slot_index slot)) (slot_carries n more slot ++ rest) (length (take few (slot_carries n more slot))))
           ∙ ap (λ k. take k (carries_done n more (slot_index slot) ++ (slot_carries n more slot ++ rest))) (sym size)
-          ∙ ap (take (length (now ++ new))) (sym whole)
+          ∙ ap (take (length (current ++ new))) (sym whole)
 
 -- ---- once the rounds are carried
 
-pub rounds_carried : (M : MissionValue) (L now : Log) (steps : Steps) (slot : Slot) (handed : ℕ) (w : WorldValue) → InCycle M L now steps slot 4 handed w →
-    DecideAlike M (cycles_before M (L ++ now) w.done) (cycle_at M (L ++ now) w.done)
-rounds_carried M L now steps slot handed w inside =
+pub rounds_carried : (M : MissionValue) (earlier current : Log) (steps : Steps) (slot : Slot) (handed : ℕ) (w : WorldValue) → InCycle M earlier current steps slot 4 handed w →
+    DecideAlike M (cycles_before M (earlier ++ current) w.done) (cycle_at M (earlier ++ current) w.done)
+rounds_carried M earlier current steps slot handed w inside =
     let n = w.done in
-    let past = cycles_before M (L ++ now) n in
-    let e = next_cycle M (L ++ now) past in
+    let past = cycles_before M (earlier ++ current) n in
+    let e = next_cycle M (earlier ++ current) past in
     let c = length past in
-    let size : c ≡ n = length-cycles_before M (L ++ now) n in
-    let due : AllZip (IsDue M past e) (carries_through c e Round3) now =
-    subst (λ m. AllZip (IsDue M past e) (carries_through m e Round3) now) (sym size)
-    (zip_map (λ carry entry. IsMadeBy M past e (steps_of steps carry.from) carry entry) (IsDue M past e) (carries_done n e 4) now (λ carry entry h. made_is_due M past e (steps_of steps carry.from) carry entry h) inside.current) in
-    let these : list_all (λ (x : EntryValue). x.cycle == c) now ≡ true = entries_cycle M past e c (carries_through c e Round3) now due (all_through c e Round3) in
-    let entries : e.entries ≡ now ++ [] =
-    entries_now M (L ++ now) past
-    ∙ filter-append (λ (x : EntryValue). x.cycle == c) L now
-    ∙ ap (λ es. es ++ entries_of c now) (entries_of-earlier c L (earlier_entries M past L inside.before))
-    ∙ entries_of-all c now these
-    ∙ sym (append-nil now) in
-    decides_under_way M (L ++ now) n Round3 inside.ranges inside.below refl
-    (record { now = now; rest = []; entries = entries; due = due; unstopped = subst (λ m. halts m e Round3 ≡ false) (sym size) (inside.unhalted Round3 (omega arith)) })
+    let size : c ≡ n = length-cycles_before M (earlier ++ current) n in
+    let due : AllZip (IsDue M past e) (carries_through c e Round3) current =
+    subst (λ m. AllZip (IsDue M past e) (carries_through m e Round3) current) (sym size)
+    (zip_map (λ carry entry. IsMadeBy M past e (steps_of steps carry.from) carry entry) (IsDue M past e) (carries_done n e 4) current (λ carry entry h. made_is_due M past e (steps_of steps carry.from) carry entry h) inside.made) in
+    let these : list_all (λ (x : EntryValue). x.cycle == c) current ≡ true = entries_cycle M past e c (carries_through c e Round3) current due (all_through c e Round3) in
+    let entries : e.entries ≡ current ++ [] =
+    entries_now M (earlier ++ current) past
+    ∙ filter-append (λ (x : EntryValue). x.cycle == c) earlier current
+    ∙ ap (λ es. es ++ entries_of c current) (entries_of-earlier c earlier (earlier_entries M past earlier inside.before))
+    ∙ entries_of-all c current these
+    ∙ sym (append-nil current) in
+    decides_under_way M (earlier ++ current) n Round3 inside.ranges inside.below refl
+    (record { now = current; rest = []; entries = entries; due = due; unstopped = subst (λ m. halts m e Round3 ≡ false) (sym size) (inside.unhalted Round3 (omega arith)) })
 
 -- the entries of a cycle all of whose slots are carried
-pub all_carried : (M : MissionValue) (L now : Log) (steps : Steps) (slot : Slot) (handed : ℕ) (w : WorldValue) → InCycle M L now steps slot 9 handed w →
-    (cycle_at M (L ++ now) w.done).entries ≡ now
-all_carried M L now steps slot handed w inside =
+pub all_carried : (M : MissionValue) (earlier current : Log) (steps : Steps) (slot : Slot) (handed : ℕ) (w : WorldValue) → InCycle M earlier current steps slot 9 handed w →
+    (cycle_at M (earlier ++ current) w.done).entries ≡ current
+all_carried M earlier current steps slot handed w inside =
     let n = w.done in
-    let past = cycles_before M (L ++ now) n in
-    let e = next_cycle M (L ++ now) past in
+    let past = cycles_before M (earlier ++ current) n in
+    let e = next_cycle M (earlier ++ current) past in
     let c = length past in
-    let size : c ≡ n = length-cycles_before M (L ++ now) n in
-    let due : AllZip (IsDue M past e) (carries_through c e Switch) now =
-    subst (λ m. AllZip (IsDue M past e) (carries_through m e Switch) now) (sym size)
-    (zip_map (λ carry entry. IsMadeBy M past e (steps_of steps carry.from) carry entry) (IsDue M past e) (carries_done n e 9) now (λ carry entry h. made_is_due M past e (steps_of steps carry.from) carry entry h) inside.current) in
-    let these : list_all (λ (x : EntryValue). x.cycle == c) now ≡ true = entries_cycle M past e c (carries_through c e Switch) now due (all_through c e Switch) in
-    entries_now M (L ++ now) past
-    ∙ filter-append (λ (x : EntryValue). x.cycle == c) L now
-    ∙ ap (λ es. es ++ entries_of c now) (entries_of-earlier c L (earlier_entries M past L inside.before))
-    ∙ entries_of-all c now these
+    let size : c ≡ n = length-cycles_before M (earlier ++ current) n in
+    let due : AllZip (IsDue M past e) (carries_through c e Switch) current =
+    subst (λ m. AllZip (IsDue M past e) (carries_through m e Switch) current) (sym size)
+    (zip_map (λ carry entry. IsMadeBy M past e (steps_of steps carry.from) carry entry) (IsDue M past e) (carries_done n e 9) current (λ carry entry h. made_is_due M past e (steps_of steps carry.from) carry entry h) inside.made) in
+    let these : list_all (λ (x : EntryValue). x.cycle == c) current ≡ true = entries_cycle M past e c (carries_through c e Switch) current due (all_through c e Switch) in
+    entries_now M (earlier ++ current) past
+    ∙ filter-append (λ (x : EntryValue). x.cycle == c) earlier current
+    ∙ ap (λ es. es ++ entries_of c current) (entries_of-earlier c earlier (earlier_entries M past earlier inside.before))
+    ∙ entries_of-all c current these

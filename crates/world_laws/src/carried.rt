@@ -19,11 +19,11 @@ ghost use Rattle.world_laws.specs.Ended.{SlotEnds};
 /// When all entries of a slot are carried, and the senders of whom one was not delivered as sent are marked beside those who
 /// were charged before, what the world holds tells who is disturbed and whether the run stops in the slot.
 pub fn slots_end()
-    ensures { (M : MissionValue) (L now new : Log) (steps : Steps) (slot : Slot) (active charged marked : ChannelSet) (w : WorldValue) →
-        on_bus slot ≡ true → InCycle M L now steps slot (slot_index slot) (slot_index slot) w →
-        AreDueCarries M (L ++ now) w.done steps (slot_carries w.done (cycle_at M (L ++ now) w.done) slot) new →
-        active ≡ (cycle_at M (L ++ now) w.done).active →
-        ((q : Channel) → q < 7 → has charged q ≡ list_any (is_charge w.done Switch q) now) →
+    ensures { (M : MissionValue) (earlier current new : Log) (steps : Steps) (slot : Slot) (active charged marked : ChannelSet) (w : WorldValue) →
+        on_bus slot ≡ true → InCycle M earlier current steps slot (slot_index slot) (slot_index slot) w →
+        AreDueCarries M (earlier ++ current) w.done steps (slot_carries w.done (cycle_at M (earlier ++ current) w.done) slot) new →
+        active ≡ (cycle_at M (earlier ++ current) w.done).active →
+        ((q : Channel) → q < 7 → has charged q ≡ list_any (is_charge w.done Switch q) current) →
         ((q : Channel) → q < 7 → has marked q ≡ (has charged q || list_any (is_charge w.done slot q) new)) →
-        SlotEnds M L now new steps slot active marked w }
+        SlotEnds M earlier current new steps slot active marked w }
 {}

@@ -20,61 +20,61 @@ ghost use Rattle.guards_world.specs.Passing.{world_after, world_carried, world_i
 pub fn slots_are_entered()
     ensures first { (w : WorldValue) (L : Log) (steps : Steps) → StandsForWorld w L → w.done < w.mission.cycles → w.spent ≡ None →
         InCycle w.mission L [] steps Request 0 0 (world_in w.mission (L ++ []) steps Request 0 w) }
-    ensures later { (M : MissionValue) (L now : Log) (steps : Steps) (slot next : Slot) (carried handed more : ℕ) (w : WorldValue) →
-        InCycle M L now steps slot carried handed w →
-        InCycle M L now steps next carried more (world_in M (L ++ now) steps next more w) }
+    ensures later { (M : MissionValue) (earlier current : Log) (steps : Steps) (slot next : Slot) (carried handed more : ℕ) (w : WorldValue) →
+        InCycle M earlier current steps slot carried handed w →
+        InCycle M earlier current steps next carried more (world_in M (earlier ++ current) steps next more w) }
 {}
 
 /// When the entries that are due in a slot by what was known before it are carried, they are those of the longer log, and
 /// nothing that was known changes: so the cycle goes on or stops there. Where only some were carried, what the log has of the
 /// cycle is a front of its due entries.
 pub fn slots_are_carried()
-    ensures goes_on { (M : MissionValue) (L now new : Log) (steps : Steps) (slot : Slot) (w : WorldValue) → on_bus slot ≡ true →
-        InCycle M L now steps slot (slot_index slot) (slot_index slot) w →
-        AreDueCarries M (L ++ now) w.done steps (slot_carries w.done (cycle_at M (L ++ now) w.done) slot) new →
-        halts w.done (cycle_at M (L ++ (now ++ new)) w.done) slot ≡ false →
-        InCycle M L (now ++ new) steps slot (suc (slot_index slot)) (slot_index slot) (world_carried (length new) w) }
-    ensures stops { (M : MissionValue) (L now new : Log) (steps : Steps) (slot : Slot) (w : WorldValue) → on_bus slot ≡ true →
-        InCycle M L now steps slot (slot_index slot) (slot_index slot) w →
-        AreDueCarries M (L ++ now) w.done steps (slot_carries w.done (cycle_at M (L ++ now) w.done) slot) new →
-        halts w.done (cycle_at M (L ++ (now ++ new)) w.done) slot ≡ true →
-        IsStopIn M L (now ++ new) w.done steps slot }
-    ensures breaks_off { (M : MissionValue) (L now new : Log) (steps : Steps) (slot : Slot) (w : WorldValue) (few : ℕ) → on_bus slot ≡ true →
-        InCycle M L now steps slot (slot_index slot) (slot_index slot) w →
-        AreDueCarries M (L ++ now) w.done steps (take few (slot_carries w.done (cycle_at M (L ++ now) w.done) slot)) new →
-        IsFront M L (now ++ new) w.done }
+    ensures goes_on { (M : MissionValue) (earlier current new : Log) (steps : Steps) (slot : Slot) (w : WorldValue) → on_bus slot ≡ true →
+        InCycle M earlier current steps slot (slot_index slot) (slot_index slot) w →
+        AreDueCarries M (earlier ++ current) w.done steps (slot_carries w.done (cycle_at M (earlier ++ current) w.done) slot) new →
+        halts w.done (cycle_at M (earlier ++ (current ++ new)) w.done) slot ≡ false →
+        InCycle M earlier (current ++ new) steps slot (suc (slot_index slot)) (slot_index slot) (world_carried (length new) w) }
+    ensures stops { (M : MissionValue) (earlier current new : Log) (steps : Steps) (slot : Slot) (w : WorldValue) → on_bus slot ≡ true →
+        InCycle M earlier current steps slot (slot_index slot) (slot_index slot) w →
+        AreDueCarries M (earlier ++ current) w.done steps (slot_carries w.done (cycle_at M (earlier ++ current) w.done) slot) new →
+        halts w.done (cycle_at M (earlier ++ (current ++ new)) w.done) slot ≡ true →
+        IsStopIn M earlier (current ++ new) w.done steps slot }
+    ensures breaks_off { (M : MissionValue) (earlier current new : Log) (steps : Steps) (slot : Slot) (w : WorldValue) (few : ℕ) → on_bus slot ≡ true →
+        InCycle M earlier current steps slot (slot_index slot) (slot_index slot) w →
+        AreDueCarries M (earlier ++ current) w.done steps (take few (slot_carries w.done (cycle_at M (earlier ++ current) w.done) slot)) new →
+        IsFront M earlier (current ++ new) w.done }
 {}
 
 /// What was delivered of each entry of the slot is just what its receiver has received by the facts: the frame that the piece
 /// spells, where it counts. The slot's entries alone say it, and between other pairs nothing is received.
 pub fn pieces_arrive()
-    ensures each { (M : MissionValue) (L now new : Log) (steps : Steps) (slot : Slot) (w : WorldValue) → on_bus slot ≡ true →
-        InCycle M L now steps slot (slot_index slot) (slot_index slot) w →
-        AreDueCarries M (L ++ now) w.done steps (slot_carries w.done (cycle_at M (L ++ now) w.done) slot) new →
-        AllZip (Arrives M (cycle_at M (L ++ (now ++ new)) w.done).entries)
-        (slot_carries w.done (cycle_at M (L ++ now) w.done) slot) new }
-    ensures slot_alone { (M : MissionValue) (L now new : Log) (steps : Steps) (slot : Slot) (w : WorldValue) (from to : ℕ) →
-        on_bus slot ≡ true → InCycle M L now steps slot (slot_index slot) (slot_index slot) w →
-        AreDueCarries M (L ++ now) w.done steps (slot_carries w.done (cycle_at M (L ++ now) w.done) slot) new →
-        received_body M (cycle_at M (L ++ (now ++ new)) w.done).entries w.done slot from to
+    ensures each { (M : MissionValue) (earlier current new : Log) (steps : Steps) (slot : Slot) (w : WorldValue) → on_bus slot ≡ true →
+        InCycle M earlier current steps slot (slot_index slot) (slot_index slot) w →
+        AreDueCarries M (earlier ++ current) w.done steps (slot_carries w.done (cycle_at M (earlier ++ current) w.done) slot) new →
+        AllZip (Arrives M (cycle_at M (earlier ++ (current ++ new)) w.done).entries)
+        (slot_carries w.done (cycle_at M (earlier ++ current) w.done) slot) new }
+    ensures slot_alone { (M : MissionValue) (earlier current new : Log) (steps : Steps) (slot : Slot) (w : WorldValue) (from to : ℕ) →
+        on_bus slot ≡ true → InCycle M earlier current steps slot (slot_index slot) (slot_index slot) w →
+        AreDueCarries M (earlier ++ current) w.done steps (slot_carries w.done (cycle_at M (earlier ++ current) w.done) slot) new →
+        received_body M (cycle_at M (earlier ++ (current ++ new)) w.done).entries w.done slot from to
         ≡ received_body M new w.done slot from to }
-    ensures nothing_else { (M : MissionValue) (L now new : Log) (steps : Steps) (slot : Slot) (w : WorldValue) (from to : ℕ) →
-        on_bus slot ≡ true → InCycle M L now steps slot (slot_index slot) (slot_index slot) w →
-        AreDueCarries M (L ++ now) w.done steps (slot_carries w.done (cycle_at M (L ++ now) w.done) slot) new →
-        list_any (is_carry_between from to) (slot_carries w.done (cycle_at M (L ++ now) w.done) slot) ≡ false →
-        received_body M (cycle_at M (L ++ (now ++ new)) w.done).entries w.done slot from to ≡ None }
+    ensures nothing_else { (M : MissionValue) (earlier current new : Log) (steps : Steps) (slot : Slot) (w : WorldValue) (from to : ℕ) →
+        on_bus slot ≡ true → InCycle M earlier current steps slot (slot_index slot) (slot_index slot) w →
+        AreDueCarries M (earlier ++ current) w.done steps (slot_carries w.done (cycle_at M (earlier ++ current) w.done) slot) new →
+        list_any (is_carry_between from to) (slot_carries w.done (cycle_at M (earlier ++ current) w.done) slot) ≡ false →
+        received_body M (cycle_at M (earlier ++ (current ++ new)) w.done).entries w.done slot from to ≡ None }
 {}
 
 /// Once the rounds are carried, all active channels decide alike, whoever crashes afterwards and wherever the run stops.
 pub fn rounds_settle_decisions()
-    ensures { (M : MissionValue) (L now : Log) (steps : Steps) (slot : Slot) (handed : ℕ) (w : WorldValue) →
-        InCycle M L now steps slot 4 handed w →
-        DecideAlike M (cycles_before M (L ++ now) w.done) (cycle_at M (L ++ now) w.done) }
+    ensures { (M : MissionValue) (earlier current : Log) (steps : Steps) (slot : Slot) (handed : ℕ) (w : WorldValue) →
+        InCycle M earlier current steps slot 4 handed w →
+        DecideAlike M (cycles_before M (earlier ++ current) w.done) (cycle_at M (earlier ++ current) w.done) }
 {}
 
 /// Where all slots of a cycle are done, and none of them halted, the log with the cycle's entries stands for the world after
 /// it, in which one cycle more is done.
 pub fn worlds_go_on()
-    ensures { (M : MissionValue) (L now : Log) (steps : Steps) (w : WorldValue) → InCycle M L now steps Switch 9 9 w →
-        StandsForWorld (world_after M L now steps w.done w.carried) (L ++ now) }
+    ensures { (M : MissionValue) (earlier current : Log) (steps : Steps) (w : WorldValue) → InCycle M earlier current steps Switch 9 9 w →
+        StandsForWorld (world_after M earlier current steps w.done w.carried) (earlier ++ current) }
 {}

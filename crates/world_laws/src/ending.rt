@@ -19,33 +19,33 @@ ghost use Rattle.guards_world.specs.Passing.{world_after, IsStopIn, IsFront};
 /// the longer log stands for it, the cycle is sound, each channel that goes on running has its trail, and a whole channel
 /// holds its replica with the final content put in. `w` is the world within the cycle that `old` has begun.
 pub fn cycles_finish()
-    ensures { (old w new : WorldValue) (L now : Log) (steps : Steps) (part : RecordValue) →
+    ensures { (old w new : WorldValue) (earlier current : Log) (steps : Steps) (part : RecordValue) →
         w.mission ≡ old.mission → w.done ≡ old.done →
-        InCycle w.mission L now steps Switch 9 9 w →
-        AreFull w.mission (cycles_before w.mission (L ++ now) w.done) (cycle_at w.mission (L ++ now) w.done) steps →
+        InCycle w.mission earlier current steps Switch 9 9 w →
+        AreFull w.mission (cycles_before w.mission (earlier ++ current) w.done) (cycle_at w.mission (earlier ++ current) w.done) steps →
         shown w.mission.rules.channels w.mission.width (length w.mission.outputs) part
-        ≡ cycle_record w.mission steps w.done (cycle_at w.mission (L ++ now) w.done) →
+        ≡ cycle_record w.mission steps w.done (cycle_at w.mission (earlier ++ current) w.done) →
         AllByRecursion (IsLinePadded w.mission) part.lines →
-        new ≡ world_after w.mission L now steps w.done w.carried →
-        Ends old L now (Ok part) new }
+        new ≡ world_after w.mission earlier current steps w.done w.carried →
+        Ends old earlier current (Ok part) new }
 {}
 
 /// Where the run stops in a slot, the cycle stopped there.
 pub fn cycles_stop()
-    ensures { (old w new : WorldValue) (L now : Log) (steps : Steps) (stop : StopValue) →
+    ensures { (old w new : WorldValue) (earlier current : Log) (steps : Steps) (stop : StopValue) →
         w.mission ≡ old.mission → w.done ≡ old.done →
-        IsStopIn w.mission L now w.done steps stop.slot →
-        stop_in w.done (cycle_at w.mission (L ++ now) w.done) ≡ Some stop →
+        IsStopIn w.mission earlier current w.done steps stop.slot →
+        stop_in w.done (cycle_at w.mission (earlier ++ current) w.done) ≡ Some stop →
         (slot_index Tasks < slot_index stop.slot →
-        AreFull w.mission (cycles_before w.mission (L ++ now) w.done) (cycle_at w.mission (L ++ now) w.done) steps) →
+        AreFull w.mission (cycles_before w.mission (earlier ++ current) w.done) (cycle_at w.mission (earlier ++ current) w.done) steps) →
         new.mission ≡ w.mission → new.done ≡ w.done → new.spent ≡ Some (disturbed stop) →
-        Ends old L now (Err (disturbed stop)) new }
+        Ends old earlier current (Err (disturbed stop)) new }
 {}
 
 /// Where only a front of the cycle's due entries was carried, memory ran out in it.
 pub fn cycles_run_out()
-    ensures { (old w new : WorldValue) (L now : Log) →
-        w.mission ≡ old.mission → w.done ≡ old.done → IsFront w.mission L now w.done →
+    ensures { (old w new : WorldValue) (earlier current : Log) →
+        w.mission ≡ old.mission → w.done ≡ old.done → IsFront w.mission earlier current w.done →
         new.mission ≡ w.mission → new.done ≡ w.done → new.spent ≡ Some no_memory →
-        Ends old L now (Err no_memory) new }
+        Ends old earlier current (Err no_memory) new }
 {}

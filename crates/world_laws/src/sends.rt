@@ -21,29 +21,29 @@ ghost use Rattle.guards_world.specs.SlotSends.{MaySend, IsEntryOf, all_sends};
 /// nodes send, one after the other, are the carries of the slot in their order, with the bytes that are due on them. So are
 /// the first few. The steps of those who worked are full, where the slot is that of the sweep.
 pub fn sends_are_due()
-    ensures stands { (M : MissionValue) (L now : Log) (steps : Steps) (slot : Slot) (w : WorldValue) →
-        InCycle M L now steps slot (slot_index slot) (slot_index slot) w →
-        let past = cycles_before M (L ++ now) w.done in
-        let e = cycle_at M (L ++ now) w.done in
+    ensures stands { (M : MissionValue) (earlier current : Log) (steps : Steps) (slot : Slot) (w : WorldValue) →
+        InCycle M earlier current steps slot (slot_index slot) (slot_index slot) w →
+        let past = cycles_before M (earlier ++ current) w.done in
+        let e = cycle_at M (earlier ++ current) w.done in
         All (StandsForReceived (λ q. received_through M past e (slot_index slot) q)) w.nodes }
-    ensures may_send { (M : MissionValue) (L now : Log) (steps : Steps) (slot : Slot) (w : WorldValue) →
-        InCycle M L now steps slot (slot_index slot) (slot_index slot) w →
-        let past = cycles_before M (L ++ now) w.done in
-        let e = cycle_at M (L ++ now) w.done in
+    ensures may_send { (M : MissionValue) (earlier current : Log) (steps : Steps) (slot : Slot) (w : WorldValue) →
+        InCycle M earlier current steps slot (slot_index slot) (slot_index slot) w →
+        let past = cycles_before M (earlier ++ current) w.done in
+        let e = cycle_at M (earlier ++ current) w.done in
         (slot ≡ Sweep → AreFull M past e steps) →
         All (MaySend M w.done slot (λ q. received_through M past e (slot_index slot) q)) w.nodes }
-    ensures whole { (M : MissionValue) (L now new : Log) (steps : Steps) (slot : Slot) (to : List ℕ) (w : WorldValue) →
-        InCycle M L now steps slot (slot_index slot) (slot_index slot) w →
-        let past = cycles_before M (L ++ now) w.done in
-        let e = cycle_at M (L ++ now) w.done in
+    ensures whole { (M : MissionValue) (earlier current new : Log) (steps : Steps) (slot : Slot) (to : List ℕ) (w : WorldValue) →
+        InCycle M earlier current steps slot (slot_index slot) (slot_index slot) w →
+        let past = cycles_before M (earlier ++ current) w.done in
+        let e = cycle_at M (earlier ++ current) w.done in
         (slot ≡ Sweep → AreFull M past e steps) → receivers e slot ≡ to →
         AllZip IsEntryOf (all_sends M w.done slot to (λ q. received_through M past e (slot_index slot) q) w.nodes) new →
-        AreDueCarries M (L ++ now) w.done steps (slot_carries w.done e slot) new }
-    ensures some { (M : MissionValue) (L now new : Log) (steps : Steps) (slot : Slot) (to : List ℕ) (few : ℕ) (w : WorldValue) →
-        InCycle M L now steps slot (slot_index slot) (slot_index slot) w →
-        let past = cycles_before M (L ++ now) w.done in
-        let e = cycle_at M (L ++ now) w.done in
+        AreDueCarries M (earlier ++ current) w.done steps (slot_carries w.done e slot) new }
+    ensures some { (M : MissionValue) (earlier current new : Log) (steps : Steps) (slot : Slot) (to : List ℕ) (few : ℕ) (w : WorldValue) →
+        InCycle M earlier current steps slot (slot_index slot) (slot_index slot) w →
+        let past = cycles_before M (earlier ++ current) w.done in
+        let e = cycle_at M (earlier ++ current) w.done in
         (slot ≡ Sweep → AreFull M past e steps) → receivers e slot ≡ to →
         AllZip IsEntryOf (take few (all_sends M w.done slot to (λ q. received_through M past e (slot_index slot) q) w.nodes)) new →
-        AreDueCarries M (L ++ now) w.done steps (take few (slot_carries w.done e slot)) new }
+        AreDueCarries M (earlier ++ current) w.done steps (take few (slot_carries w.done e slot)) new }
 {}

@@ -32,21 +32,21 @@ pub fn decisions_stay()
 /// Where so many slots of a cycle are carried, and later the same cycle has come further, the entries since are of the slots
 /// that were not carried yet.
 pub fn later_slots_follow()
-    ensures { (M : MissionValue) (L now new : Log) (steps later : Steps) (slot last : Slot) (carried handed more given : ℕ)
-        (w after : WorldValue) → after.done ≡ w.done → InCycle M L now steps slot carried handed w →
-        InCycle M L (now ++ new) later last more given after → AreFromPlace w.done carried new }
+    ensures { (M : MissionValue) (earlier current new : Log) (steps later : Steps) (slot last : Slot) (carried handed more given : ℕ)
+        (w after : WorldValue) → after.done ≡ w.done → InCycle M earlier current steps slot carried handed w →
+        InCycle M earlier (current ++ new) later last more given after → AreFromPlace w.done carried new }
 {}
 
 /// Up to the work of the tasks slot nothing in the world or in the log tells the steps of the cycle.
 pub fn steps_come_later()
-    ensures { (M : MissionValue) (L now : Log) (steps other : Steps) (w : WorldValue) →
-        InCycle M L now steps Tasks 5 4 w → InCycle M L now other Tasks 5 4 w }
+    ensures { (M : MissionValue) (earlier current : Log) (steps other : Steps) (w : WorldValue) →
+        InCycle M earlier current steps Tasks 5 4 w → InCycle M earlier current other Tasks 5 4 w }
 {}
 
 /// In each slot that was carried and did not stop the run some active channel is up.
 pub fn channels_run()
-    ensures { (M : MissionValue) (L now : Log) (steps : Steps) (slot last : Slot) (carried handed : ℕ) (w : WorldValue) →
-        InCycle M L now steps last carried handed w → slot_index slot < carried →
-        (q : Channel) × (q < 7) × (mode_in (cycle_at M (L ++ now) w.done) q slot ≡ up)
-        × (has (cycle_at M (L ++ now) w.done).active q ≡ true) }
+    ensures { (M : MissionValue) (earlier current : Log) (steps : Steps) (slot last : Slot) (carried handed : ℕ) (w : WorldValue) →
+        InCycle M earlier current steps last carried handed w → slot_index slot < carried →
+        (q : Channel) × (q < 7) × (mode_in (cycle_at M (earlier ++ current) w.done) q slot ≡ up)
+        × (has (cycle_at M (earlier ++ current) w.done).active q ≡ true) }
 {}

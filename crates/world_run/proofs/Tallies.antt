@@ -63,9 +63,9 @@ module _ (may : List RuleValue → EntryValue → Type 0) (M : MissionValue) (st
     pub tally_done : (part : RecordValue) → PassesCycle may w.spent w bus (Ok part) new after → t'.joins ≡ t.joins + length part.joined → t'.removals ≡ t.removals + length part.removed →
         t'.last ≡ first_votes part.lines → TalliesTo may number M start out (suc w.done) new after out t' (Ok tt)
     tally_done part cycled joins removals last =
-        let (L, histories, between, tallied) = at in
-        let (now, steps, next, done, made, full, same, told) = passes_on may start bus w L L histories M (Ok part) new after between below cycled (λ unspent none. absurd cc) in
-        let K = L ++ now in
+        let (earlier, histories, between, tallied) = at in
+        let (current, steps, next, done, made, full, same, told) = passes_on may start bus w earlier earlier histories M (Ok part) new after between below cycled (λ unspent none. absurd cc) in
+        let K = earlier ++ current in
         let e = cycle_at M K w.done in
         let joined : part.joined ≡ e.joined = ap (λ (r : RecordValue). r.joined) told in
         let removed : part.removed ≡ e.removed = ap (λ (r : RecordValue). r.removed) told in
@@ -80,22 +80,22 @@ module _ (may : List RuleValue → EntryValue → Type 0) (M : MissionValue) (st
 
     stops : (s : StopValue) → PassesCycle may w.spent w bus (Err (disturbed s)) new after → WritesLine out out' (stop_text s) → SummarizesToStop may number M s start after out out'
     stops s cycled line =
-        let (L, histories, between, tallied) = at in
-        let (now, ran, stopped, same) = passes_on may start bus w L L histories M (Err (disturbed s)) new after between below cycled (λ unspent none. absurd cc) in
-        let at_cycle : s.cycle ≡ w.done = stop_cycle w.done (cycle_at M (L ++ now) w.done) s stopped.stopped in
-        (L ++ now, histories, ran, subst (λ n. HasRunToStop M n s (L ++ now) histories) (sym at_cycle) stopped, subst (WritesLine out out') (stop_is s) line)
+        let (earlier, histories, between, tallied) = at in
+        let (current, ran, stopped, same) = passes_on may start bus w earlier earlier histories M (Err (disturbed s)) new after between below cycled (λ unspent none. absurd cc) in
+        let at_cycle : s.cycle ≡ w.done = stop_cycle w.done (cycle_at M (earlier ++ current) w.done) s stopped.stopped in
+        (earlier ++ current, histories, ran, subst (λ n. HasRunToStop M n s (earlier ++ current) histories) (sym at_cycle) stopped, subst (WritesLine out out') (stop_is s) line)
 
     stops_short : (s : StopValue) → PassesCycle may w.spent w bus (Err (disturbed s)) new after → out' ≡ out → Summarizes may number M start after out out' (Err (Halted halt.NoMemory))
     stops_short s cycled kept =
-        let (L, histories, between, tallied) = at in
-        let (now, ran, stopped, same) = passes_on may start bus w L L histories M (Err (disturbed s)) new after between below cycled (λ unspent none. absurd cc) in
-        (L ++ now, histories, w.done, ran, stop_breaks_off M w.done s (L ++ now) histories stopped, kept)
+        let (earlier, histories, between, tallied) = at in
+        let (current, ran, stopped, same) = passes_on may start bus w earlier earlier histories M (Err (disturbed s)) new after between below cycled (λ unspent none. absurd cc) in
+        (earlier ++ current, histories, w.done, ran, stop_breaks_off M w.done s (earlier ++ current) histories stopped, kept)
 
     runs_out : PassesCycle may w.spent w bus (Err no_memory) new after → CarriesUpToStop w bus (Err no_memory) after → out' ≡ out → Summarizes may number M start after out out' (Err (Halted halt.NoMemory))
     runs_out cycled no_further kept =
-        let (L, histories, between, tallied) = at in
-        let (now, ran, part, same) = passes_on may start bus w L L histories M (Err no_memory) new after between below cycled no_further in
-        (L ++ now, histories, w.done, ran, part, kept)
+        let (earlier, histories, between, tallied) = at in
+        let (current, ran, part, same) = passes_on may start bus w earlier earlier histories M (Err no_memory) new after between below cycled no_further in
+        (earlier ++ current, histories, w.done, ran, part, kept)
 
     pub tally_halted : (h : Halt) (stop : RunStop) → PassesCycle may w.spent w bus (Err (halt_value h)) new after → CarriesUpToStop w bus (Err (halt_value h)) after → TellsHalt h out out' stop → Summarizes may number M start after out out' (Err stop)
     tally_halted (halt.Disturbed cycle slot set active) (Halted (halt.Disturbed cycle' slot' set' active')) cycled no_further line =

@@ -7,5 +7,5 @@ pub returns-clause-handed : goal.returns-clause-handed
 returns-clause-handed c = λ M L n steps mission. all_switched M L n steps mission
 
 pub returns-clause-after : goal.returns-clause-after
-returns-clause-after c = λ M L now n steps carried mission.
-    all_ended M (L ++ now) n steps (active_set M (cycle_at M (L ++ now) n ∷ cycles_before M (L ++ now) n)) mission
+returns-clause-after c = λ M earlier current n steps carried mission.
+    all_ended M (earlier ++ current) n steps (active_set M (cycle_at M (earlier ++ current) n ∷ cycles_before M (earlier ++ current) n)) mission

@@ -15,13 +15,13 @@ unwrap-closed-requires g c =
     c.requires.0 c.requires.1 c.requires.2 c.requires.3 c.in_ok-take_sweep.ensures.state)
 
 pub returns-clause-state : goal.returns-clause-state
-returns-clause-state g c = λ L now steps inside are.
-    hands_by c.args.self.now _ L now steps Sweep 7 6 7 c.close.new.self c.self.view_is inside
-    (λ held. swept_by c.args.self.now _ L now steps (g.A.Arrived.got c.args.arrived.now) c.on-members.result c.take_sweep.new.self c.close.new.self c.self.view_is
+returns-clause-state g c = λ earlier current steps inside are.
+    hands_by c.args.self.now _ earlier current steps Sweep 7 6 7 c.close.new.self c.self.view_is inside
+    (λ held. swept_by c.args.self.now _ earlier current steps (g.A.Arrived.got c.args.arrived.now) c.on-members.result c.take_sweep.new.self c.close.new.self c.self.view_is
     c.on-members.ensures are c.in_ok-take_sweep.ensures.state c.close.ensures.state held)
 
 pub returns-clause-closed : goal.returns-clause-closed
-returns-clause-closed g c = λ L now steps inside.
+returns-clause-closed g c = λ earlier current steps inside.
     closes_by closed_value c.close.result c.unwrap-closed.result _ _ c.unwrap-closed.ensures c.close.ensures.answer
     (first_closes c.args.self.now _ c.on-members.result (g.A.Arrived.got c.args.arrived.now) c.take_sweep.new.self c.self.view_is
-    L now steps inside c.in_ok-take_sweep.ensures.state)
+    earlier current steps inside c.in_ok-take_sweep.ensures.state)

@@ -16,12 +16,12 @@ unwrap-removed-requires c =
     (c.self.view_is ∙ c.receive.ensures.state held.0 held.1 held.2 held.3 held.4) c.decide.new.self c.decide.ensures.state c.decide.result c.decide.ensures.answer
 
 pub returns-clause-state : goal.returns-clause-state
-returns-clause-state c = λ L now steps inside are.
-    decides_world c.args.self.now _ L now steps (got_of c.args.arrived.now) inside are
-    (c.self.view_is ∙ c.receive.ensures.state L now steps inside are) c.decide.new.self c.decide.ensures.state
+returns-clause-state c = λ earlier current steps inside are.
+    decides_world c.args.self.now _ earlier current steps (got_of c.args.arrived.now) inside are
+    (c.self.view_is ∙ c.receive.ensures.state earlier current steps inside are) c.decide.new.self c.decide.ensures.state
 
 pub returns-clause-settled : goal.returns-clause-settled
-returns-clause-settled c = λ L now steps inside are.
-    settled_then c.args.self.now _ L now steps (got_of c.args.arrived.now) inside are
-    (c.self.view_is ∙ c.receive.ensures.state L now steps inside are) c.decide.new.self c.decide.ensures.state c.decide.result c.decide.ensures.answer
+returns-clause-settled c = λ earlier current steps inside are.
+    settled_then c.args.self.now _ earlier current steps (got_of c.args.arrived.now) inside are
+    (c.self.view_is ∙ c.receive.ensures.state earlier current steps inside are) c.decide.new.self c.decide.ensures.state c.decide.result c.decide.ensures.answer
     c.unwrap-removed.result c.unwrap-removed.ensures c.transfer.result c.transfer.ensures
