@@ -9,6 +9,7 @@ use Rattle.guards_model.specs.Frames.{BodyValue}
 use Rattle.guards_model.specs.Fields.{frame_in}
 use Rattle.guards_model.specs.Network.{EntryValue, Log, counting}
 use Rattle.guards_model.specs.Rounds.{Steps, steps_of}
+use Rattle.guards_model.specs.Slots.{stage_after}
 use Rattle.guards_runs.specs.Cycles.{Past, Cycle, active_set, received_body, cycles_before, cycle_at}
 use Rattle.guards_runs.specs.Disturbed.{disturbed_channels, stop_in, stop_of}
 use Rattle.guards_runs.specs.Due.{Carry, IsDue, IsMadeBy, cycle_carries, carries_through}
@@ -27,7 +28,7 @@ world_after M earlier current steps n carried =
       mission = M;
       done = suc n;
       carried = carried;
-      nodes = map (λ q. node_with M q (ended_state (has (active_set M (e ∷ past)) q) (state_in M past e steps Switch 9 q))) (channels_of M);
+      nodes = map (λ q. node_with M q (ended_state (has (active_set M (e ∷ past)) q) (state_in M past e steps Switch (stage_after Switch) q))) (channels_of M);
       ledger = ledger_at M (e ∷ past);
       switches = active_set M (e ∷ past);
       spent = None;

@@ -22,6 +22,7 @@ use Rattle.guards_laws.proofs.SwitchesFollow.{run_switches}
 use Rattle.guards_nodes.specs.NodeStates.{NodeValue}
 use Rattle.guards_world.specs.NodeFacts.{ledger_at, running_value_in, joiner_swept, joiner_in, state_in}
 use Rattle.guards_model.specs.Settled.{SettledValue}
+use Rattle.guards_model.specs.Slots.{stage_after}
 use Rattle.guards_world.specs.Worlds.{WorldValue, HaltValue, settled_after}
 use Rattle.guards_world.specs.InCycle.{InCycle, node_in}
 use Rattle.guards_world.specs.Passing.{world_after}
@@ -51,7 +52,7 @@ some_of f (Some y) x h = refl
 
 -- ---- who took a content
 
-module _ (M : MissionValue) (earlier current : Log) (steps : Steps) (w : WorldValue) (inside : InCycle M earlier current steps Switch 9 9 w) where
+module _ (M : MissionValue) (earlier current : Log) (steps : Steps) (w : WorldValue) (inside : InCycle M earlier current steps Switch (stage_after Switch) (stage_after Switch) w) where
   abbrev n : ℕ
   n = w.done
 
@@ -92,12 +93,12 @@ module _ (M : MissionValue) (earlier current : Log) (steps : Steps) (w : WorldVa
   abbrev AreWhole : ChannelSet → Type 0
   AreWhole taken = (q : Channel) → q < 7 → is_joining (mode_in e q Switch) ≡ true → has taken q ≡ is_whole q (e ∷ past)
 
-  took : (taken : ChannelSet) → AreWhole taken → (q : Channel) → q < 7 → TookContent taken (node_in M (earlier ++ current) n steps Switch 9 q)
+  took : (taken : ChannelSet) → AreWhole taken → (q : Channel) → q < 7 → TookContent taken (node_in M (earlier ++ current) n steps Switch (stage_after Switch) q)
   unfolding state_in
   took taken whole q low =
       record {
         took = λ j is.
-            took_by taken q (running_value_in M past e steps 9 q) j (joiner_in M past e 9 q) (mode_in e q Switch)
+            took_by taken q (running_value_in M past e steps (stage_after Switch) q) j (joiner_in M past e (stage_after Switch) q) (mode_in e q Switch)
             (λ joins. whole q low joins ∙ sym (whole_takes q joins) ∙ sym (kept_content (content_taken M q past e) (joiner_swept M past e q) refl)) is;
       }
 
@@ -105,12 +106,12 @@ module _ (M : MissionValue) (earlier current : Log) (steps : Steps) (w : WorldVa
   pub all_took : (taken : ChannelSet) → AreWhole taken → All (TookContent taken) w.nodes
   all_took taken whole =
       subst (λ (nodes : List NodeValue). All (TookContent taken) nodes) (sym inside.nodes)
-      (all_nodes M (TookContent taken) (node_in M (earlier ++ current) n steps Switch 9) inside.ranges (took taken whole))
+      (all_nodes M (TookContent taken) (node_in M (earlier ++ current) n steps Switch (stage_after Switch)) inside.ranges (took taken whole))
 
   pub ended_nodes : (on : ChannelSet) → on ≡ active_set M (e ∷ past) → map (ended_on on) w.nodes ≡ (world_after M earlier current steps n w.carried).nodes
   ended_nodes on is =
       ap (map (ended_on on)) inside.nodes
-      ∙ ap (λ (s : ChannelSet). map (ended_on s) (nodes_in M (earlier ++ current) n steps Switch 9)) is
+      ∙ ap (λ (s : ChannelSet). map (ended_on s) (nodes_in M (earlier ++ current) n steps Switch (stage_after Switch))) is
       ∙ all_ended M (earlier ++ current) n steps (active_set M (e ∷ past)) inside.ranges
 
   pub ended_ledger : (on taken : ChannelSet) → on ≡ active_set M (e ∷ past) → AreWhole taken → ledger_at_end on taken w.ledger ≡ ledger_at M (e ∷ past)
@@ -119,7 +120,7 @@ module _ (M : MissionValue) (earlier current : Log) (steps : Steps) (w : WorldVa
       ∙ ends M (earlier ++ current) past on taken (λ q low. ap (λ (s : ChannelSet). has s q) is) whole
 
 -- what is known of the cycle
-settled_is : (w : WorldValue) (earlier current : Log) (steps : Steps) (d : Disturbance) → IsWithinCycle Switch 9 9 earlier current steps w d →
+settled_is : (w : WorldValue) (earlier current : Log) (steps : Steps) (d : Disturbance) → IsWithinCycle Switch (stage_after Switch) (stage_after Switch) earlier current steps w d →
     ◌≡◌ {A = Option SettledValue} (Some (record { cycle = w.done; active = w.switches; disturbed = disturbed_by d.active d.charged w.ledger }))
     (settled_after (cycle_at w.mission (earlier ++ current) w.done ∷ cycles_before w.mission (earlier ++ current) w.done))
 settled_is w earlier current steps d stands =
@@ -139,7 +140,7 @@ settled_is w earlier current steps d stands =
 
 -- the world after the cycle
 pub ended_world : (w : WorldValue) (earlier current : Log) (steps : Steps) (sent : List (Option ChannelSet)) (taken on : ChannelSet) (nodes : List NodeValue) (ledger : LedgerValue) (settled : Option SettledValue) →
-    (inside : InCycle w.mission earlier current steps Switch 9 9 w) → AreWhole w.mission earlier current steps w inside taken → sent ≡ sets_at w.mission (earlier ++ current) w.done →
+    (inside : InCycle w.mission earlier current steps Switch (stage_after Switch) (stage_after Switch) w) → AreWhole w.mission earlier current steps w inside taken → sent ≡ sets_at w.mission (earlier ++ current) w.done →
     on ≡ switched_on w.switches sent → nodes ≡ map (ended_on on) w.nodes → ledger ≡ ledger_at_end on taken w.ledger → settled ≡ settled_after (cycle_at w.mission (earlier ++ current) w.done ∷ cycles_before w.mission (earlier ++ current) w.done) →
     record w { done = w.done + 1; nodes = nodes; ledger = ledger; switches = on; settled = settled } ≡ world_after w.mission earlier current steps w.done w.carried
 ended_world w earlier current steps sent taken on nodes ledger settled inside whole sets o k l last =
@@ -159,8 +160,8 @@ ended_world w earlier current steps sent taken on nodes ledger settled inside wh
 
 -- ---- the same of a world that was restored
 
-inside_of : (old w : WorldValue) (r : SweepResult) (earlier current : Log) (steps : Steps) (d : Disturbance) → w ≡ old → IsRestored r earlier current steps old d → InCycle w.mission earlier current steps Switch 9 9 w
-inside_of old w r earlier current steps d same held = subst (λ (x : WorldValue). InCycle x.mission earlier current steps Switch 9 9 x) (sym same) held.stands.inside
+inside_of : (old w : WorldValue) (r : SweepResult) (earlier current : Log) (steps : Steps) (d : Disturbance) → w ≡ old → IsRestored r earlier current steps old d → InCycle w.mission earlier current steps Switch (stage_after Switch) (stage_after Switch) w
+inside_of old w r earlier current steps d same held = subst (λ (x : WorldValue). InCycle x.mission earlier current steps Switch (stage_after Switch) (stage_after Switch) x) (sym same) held.stands.inside
 
 pub may_end_by : (old w : WorldValue) (r : SweepResult) → w ≡ old → (d : Disturbance) → (earlier : Log) × (current : Log) × (steps : Steps) × IsRestored r earlier current steps old d →
     All (TookContent r.taken) w.nodes

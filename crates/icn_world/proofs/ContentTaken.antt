@@ -16,6 +16,7 @@ use Rattle.guards_model.specs.Network.{Log}
 use Rattle.guards_model.specs.Replicas.{final_content, final_taken}
 use Rattle.guards_model.specs.Rounds.{Steps}
 use Rattle.guards_model.proofs.ListTests.{any-map}
+use Rattle.guards_model.specs.Slots.{stage_after, stage_before}
 use Rattle.guards_runs.specs.Cycles.{Past, Cycle, mode_in, received_body, cycles_before, cycle_at}
 use Rattle.guards_runs.specs.Restoration.{finals_at, replica_after, content_taken}
 use Rattle.guards_runs.specs.SlotFacts.{AreFromPlace}
@@ -84,26 +85,26 @@ module _ (M : MissionValue) (L : Log) (n : ℕ) (steps : Steps) (mission : IsMis
         ∙ ap (λ (f : Channel → Option FinalValue). filter_map f e.active)
         (fun_ext (λ j. ap final_content (are j q ∙ ap (λ (c : ℕ). received_body M e.entries c Final j q) (sym (length-cycles_before M L n)))))
 
-    content_is : (q : Channel) → is_joining (mode_in e q Final) ≡ true → takes members got (node_in M L n steps Final 7 q) ≡ is_some (content_taken M q past e)
+    content_is : (q : Channel) → is_joining (mode_in e q Final) ≡ true → takes members got (node_in M L n steps Final (stage_before Final) q) ≡ is_some (content_taken M q past e)
     unfolding state_in
     content_is q joins =
-        takes_by (finals_of members got q) (running_value_in M past e steps 7 q) (joiner_in M past e 7 q) (mode_in e q Final) joins
+        takes_by (finals_of members got q) (running_value_in M past e steps (stage_before Final) q) (joiner_in M past e (stage_before Final) q) (mode_in e q Final) joins
         ∙ ap (λ (frames : List FinalValue). is_some (final_taken frames (replica_after M q (e ∷ past)))) (finals_are q)
 
     abbrev TookThere : ChannelSet → List NodeValue → Type 0
     TookThere taken nodes = (q : Channel) → q < 7 → has taken q ≡ list_any (λ node. takes members got node && (node.channel == q)) nodes
 
-    pub have_taken : (taken : ChannelSet) → TookThere taken (map (node_in M L n steps Final 7) (channels_of M)) → HaveTaken taken M L n steps
+    pub have_taken : (taken : ChannelSet) → TookThere taken (map (node_in M L n steps Final (stage_before Final)) (channels_of M)) → HaveTaken taken M L n steps
     unfolding state_in
     have_taken taken took q low =
         record {
           took = λ j is.
-              took_by taken q (running_value_in M past e steps 8 q) j (joiner_in M past e 8 q) (mode_in e q Final)
+              took_by taken q (running_value_in M past e steps (stage_before Switch) q) j (joiner_in M past e (stage_before Switch) q) (mode_in e q Final)
               (λ joins.
               took q low
-              ∙ any-map (λ (node : NodeValue). takes members got node && (node.channel == q)) (node_in M L n steps Final 7) (channels_of M)
-              ∙ any_at (λ p. takes members got (node_in M L n steps Final 7 p)) q (channels_of M)
-              ∙ within (takes members got (node_in M L n steps Final 7 q)) (has (channels_of M) q) (joins_within M L n mission q low Final refl joins)
+              ∙ any-map (λ (node : NodeValue). takes members got node && (node.channel == q)) (node_in M L n steps Final (stage_before Final)) (channels_of M)
+              ∙ any_at (λ p. takes members got (node_in M L n steps Final (stage_before Final) p)) q (channels_of M)
+              ∙ within (takes members got (node_in M L n steps Final (stage_before Final) q)) (has (channels_of M) q) (joins_within M L n mission q low Final refl joins)
               ∙ content_is q joins
               ∙ sym (kept_content (content_taken M q past e) (joiner_swept M past e q) refl))
               is;
@@ -135,19 +136,19 @@ unfolding state_in
 taken_lasts M L new n steps taken late have q low joins =
     let past : Past = cycles_before M (L ++ new) n in
     let e : Cycle = cycle_at M (L ++ new) n in
-    let k : JoinerValue = joiner_in M past e 8 q in
-    let there : state_in M past e steps Switch 8 q ≡ returning k = joins_by (running_value_in M past e steps 8 q) k (mode_in e q Switch) joins in
-    let was : state_in M past e steps Final 8 q ≡ returning k =
-    sym (ap (λ b. cond b fallen (state_in M past e steps Final 8 q)) (not_down (mode_in e q Switch) joins))
+    let k : JoinerValue = joiner_in M past e (stage_before Switch) q in
+    let there : state_in M past e steps Switch (stage_before Switch) q ≡ returning k = joins_by (running_value_in M past e steps (stage_before Switch) q) k (mode_in e q Switch) joins in
+    let was : state_in M past e steps Final (stage_after Final) q ≡ returning k =
+    sym (ap (λ b. cond b fallen (state_in M past e steps Final (stage_after Final) q)) (not_down (mode_in e q Switch) joins))
     ∙ sym (falls M (L ++ new) past steps q low Final Switch 8 refl refl)
     ∙ there in
-    let here : (node_in M L n steps Final 8 q).state ≡ returning k = sym (ap (λ (node : NodeValue). node.state) (node_stays M L new n steps Final 8 q late)) ∙ was in
+    let here : (node_in M L n steps Final (stage_after Final) q).state ≡ returning k = sym (ap (λ (node : NodeValue). node.state) (node_stays M L new n steps Final 8 q late)) ∙ was in
     (have q low).took k here ∙ kept_content (content_taken M q past e) (joiner_swept M past e q) refl
 
 -- ---- the same of a world
 
 pub taken_by : (old w : WorldValue) (earlier current : Log) (steps : Steps) (got : Bodies) (members taken : ChannelSet) → w ≡ old → members ≡ w.switches →
-    InCycle old.mission earlier current steps Final 8 7 old → AreArrivals old.mission (earlier ++ current) old.done Final got →
+    InCycle old.mission earlier current steps Final (stage_after Final) (stage_before Final) old → AreArrivals old.mission (earlier ++ current) old.done Final got →
     ((q : Channel) → q < 7 → has taken q ≡ list_any (λ node. takes members got node && (node.channel == q)) w.nodes) →
     HaveTaken taken old.mission (earlier ++ current) old.done steps
 taken_by old w earlier current steps got members taken same on inside are took =

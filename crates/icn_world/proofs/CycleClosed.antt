@@ -14,6 +14,7 @@ use Rattle.guards_model.specs.Network.{Log}
 use Rattle.guards_model.specs.Rounds.{Steps}
 use Rattle.guards_model.proofs.AscendingLists.{any_member, set_parts}
 use Rattle.guards_model.proofs.BoolTests.{both}
+use Rattle.guards_model.specs.Slots.{stage_after, stage_before}
 use Rattle.guards_runs.specs.Cycles.{Past, Cycle, cycles_before, cycle_at, mode_in}
 use Rattle.guards_runs.specs.ControlFacts.{closed_of}
 use Rattle.guards_laws.proofs.ControlFacts.{controls_follow}
@@ -76,7 +77,7 @@ module _ (M : MissionValue) (L : Log) (n : ℕ) (steps : Steps) (members : Chann
   e = cycle_at M L n
 
   abbrev swept : Channel → NodeValue
-  swept q = with_sweeps n members got (node_in M L n steps Sweep 6 q)
+  swept q = with_sweeps n members got (node_in M L n steps Sweep (stage_before Sweep) q)
 
   decided : (q : Channel) → q < 7 → HasDecision M (swept q)
   unfolding state_in
@@ -85,27 +86,27 @@ module _ (M : MissionValue) (L : Log) (n : ℕ) (steps : Steps) (members : Chann
         rules = refl;
         had = λ s is. (
           _,
-          had_by (after_sweep_frames M.rules.blocks n (sweeps_of members got q)) (running_value_in M past e steps 6 q) s (joiner_in M past e 6 q) (mode_in e q Sweep) _ refl is,
+          had_by (after_sweep_frames M.rules.blocks n (sweeps_of members got q)) (running_value_in M past e steps (stage_before Sweep) q) s (joiner_in M past e (stage_before Sweep) q) (mode_in e q Sweep) _ refl is,
         );
       }
 
   closing_is : (q : Channel) → q < 7 → closing_of M n (swept q).state ≡ cond (is_up (mode_in e q Sweep)) (Some (closed_of e)) None
   unfolding state_in
   closing_is q low =
-      closing_by M n (after_sweep_frames M.rules.blocks n (sweeps_of members got q)) (running_value_in M past e steps 6 q) (joiner_in M past e 6 q) (closed_of e) (mode_in e q Sweep)
-      (ap (λ (c : ℕ). closed_by M.rules.last (plan_in M.rules (held_in M past e 6 q)) (written_blocks M c) (held_in M past e 6 q).control) (sym (length-cycles_before M L n))
+      closing_by M n (after_sweep_frames M.rules.blocks n (sweeps_of members got q)) (running_value_in M past e steps (stage_before Sweep) q) (joiner_in M past e (stage_before Sweep) q) (closed_of e) (mode_in e q Sweep)
+      (ap (λ (c : ℕ). closed_by M.rules.last (plan_in M.rules (held_in M past e (stage_before Sweep) q)) (written_blocks M c) (held_in M past e (stage_before Sweep) q).control) (sym (length-cycles_before M L n))
       ∙ answers M L past steps q (controls_follow M L n))
 
-  swept_are : IsMission M → map (with_sweeps n members got) (nodes_in M L n steps Sweep 6) ≡ map swept (channels_of M)
-  swept_are mission = each_node M (with_sweeps n members got) (node_in M L n steps Sweep 6) swept mission (λ q low. refl)
+  swept_are : IsMission M → map (with_sweeps n members got) (nodes_in M L n steps Sweep (stage_before Sweep)) ≡ map swept (channels_of M)
+  swept_are mission = each_node M (with_sweeps n members got) (node_in M L n steps Sweep (stage_before Sweep)) swept mission (λ q low. refl)
 
-  pub all_decided : IsMission M → All (HasDecision M) (map (with_sweeps n members got) (nodes_in M L n steps Sweep 6))
+  pub all_decided : IsMission M → All (HasDecision M) (map (with_sweeps n members got) (nodes_in M L n steps Sweep (stage_before Sweep)))
   all_decided mission =
       subst (λ (nodes : List NodeValue). All (HasDecision M) nodes) (sym (swept_are mission)) (all_nodes M (HasDecision M) swept mission decided)
 
   -- where some channel runs, the first answer is that of the facts
   pub first_is : IsMission M → (q : Channel) → mode_in e q Sweep ≡ up → has e.active q ≡ true →
-      first_closing M n (map (with_sweeps n members got) (nodes_in M L n steps Sweep 6)) ≡ Some (closed_of e)
+      first_closing M n (map (with_sweeps n members got) (nodes_in M L n steps Sweep (stage_before Sweep))) ≡ Some (closed_of e)
   first_is mission q runs there =
       let set = set_parts (channels_of M) (active_is_set M [] mission) in
       let within : has (channels_of M) q ≡ true =
@@ -117,23 +118,23 @@ module _ (M : MissionValue) (L : Log) (n : ℕ) (steps : Steps) (members : Chann
 -- ---- the same of a world
 
 pub may_close_by : (old w : WorldValue) (members : ChannelSet) (got : Bodies) (nodes : List NodeValue) → w ≡ old →
-    (L : Log) × (now : Log) × (steps : Steps) × InCycle old.mission L now steps Sweep 7 6 old → nodes ≡ map (with_sweeps w.done members got) w.nodes →
+    (L : Log) × (now : Log) × (steps : Steps) × InCycle old.mission L now steps Sweep (stage_after Sweep) (stage_before Sweep) old → nodes ≡ map (with_sweeps w.done members got) w.nodes →
     All (HasDecision w.mission) nodes
 may_close_by old w members got nodes same held are =
     let L = held.0 in
     let now = held.1 in
     let steps = held.2 in
-    let inside : InCycle w.mission L now steps Sweep 7 6 w = subst (λ (x : WorldValue). InCycle x.mission L now steps Sweep 7 6 x) (sym same) held.3 in
+    let inside : InCycle w.mission L now steps Sweep (stage_after Sweep) (stage_before Sweep) w = subst (λ (x : WorldValue). InCycle x.mission L now steps Sweep (stage_after Sweep) (stage_before Sweep) x) (sym same) held.3 in
     subst (λ (ns : List NodeValue). All (HasDecision w.mission) ns)
     (sym (are ∙ ap (map (with_sweeps w.done members got)) inside.nodes))
     (all_decided w.mission (L ++ now) w.done steps members got inside.ranges)
 
 -- what the first running node answers
 pub first_closes : (old w : WorldValue) (members : ChannelSet) (got : Bodies) (nodes : List NodeValue) → w ≡ old →
-    (earlier current : Log) (steps : Steps) → InCycle old.mission earlier current steps Sweep 7 6 old → nodes ≡ map (with_sweeps w.done members got) w.nodes →
+    (earlier current : Log) (steps : Steps) → InCycle old.mission earlier current steps Sweep (stage_after Sweep) (stage_before Sweep) old → nodes ≡ map (with_sweeps w.done members got) w.nodes →
     first_closing w.mission w.done nodes ≡ Some (closed_of (cycle_at old.mission (earlier ++ current) old.done))
 first_closes old w members got nodes same earlier current steps held are =
-    let inside : InCycle w.mission earlier current steps Sweep 7 6 w = subst (λ (x : WorldValue). InCycle x.mission earlier current steps Sweep 7 6 x) (sym same) held in
+    let inside : InCycle w.mission earlier current steps Sweep (stage_after Sweep) (stage_before Sweep) w = subst (λ (x : WorldValue). InCycle x.mission earlier current steps Sweep (stage_after Sweep) (stage_before Sweep) x) (sym same) held in
     let one = one_runs w.mission earlier current steps Sweep Sweep 7 6 w inside (ltb-true 6 7 refl) in
     ap (first_closing w.mission w.done) (are ∙ ap (map (with_sweeps w.done members got)) inside.nodes)
     ∙ first_is w.mission (earlier ++ current) w.done steps members got inside.ranges one.0 one.2 one.3
@@ -157,7 +158,7 @@ closes_by f o x first c got is h = inner (f x) c (sym (ap (option_map f) got) �
 
 pub swept_by : (old w : WorldValue) (earlier current : Log) (steps : Steps) (got : Bodies) (members : ChannelSet) (nodes left : List NodeValue) → w ≡ old → members ≡ w.switches →
     AreArrivals old.mission (earlier ++ current) old.done Sweep got → nodes ≡ map (with_sweeps w.done members got) w.nodes → left ≡ map (closed_in w.mission w.done) nodes →
-    InCycle w.mission earlier current steps Sweep 7 6 w → left ≡ nodes_in w.mission (earlier ++ current) w.done steps Sweep 7
+    InCycle w.mission earlier current steps Sweep (stage_after Sweep) (stage_before Sweep) w → left ≡ nodes_in w.mission (earlier ++ current) w.done steps Sweep (stage_after Sweep)
 swept_by old w earlier current steps got members nodes left same on are swept closed inside =
     let M = w.mission in
     let all : Log = earlier ++ current in

@@ -13,6 +13,7 @@ use Rattle.guards_model.specs.Network.{EntryValue, Log, BusValue}
 use Rattle.guards_model.specs.Rounds.{Steps, steps_of}
 use Rattle.guards_model.specs.Texts.{LineValue, TraceValue, RecordValue}
 use Rattle.guards_model.specs.Records.{shown, transfer_of_pair}
+use Rattle.guards_model.specs.Slots.{stage_after, stage_before}
 use Rattle.guards_base.specs.Seen.{Seen}
 use Rattle.guards_runs.specs.Cycles.{Cycle, cycles_before, cycle_at}
 use Rattle.guards_runs.specs.Disturbed.{is_charge}
@@ -132,7 +133,7 @@ module _ {may : List RuleValue → EntryValue → Type 0} (old : WorldValue) (d 
     unfolding n1
     is_settled earlier held = g.ends earlier [] [] (is_at_start old d begun nobody earlier held)
 
-    pub may_work : (earlier : Log) × MayPass old earlier → (earlier : Log) × (current : Log) × (steps : Steps) × InCycle w.mission earlier current steps Tasks 5 4 w
+    pub may_work : (earlier : Log) × MayPass old earlier → (earlier : Log) × (current : Log) × (steps : Steps) × InCycle w.mission earlier current steps Tasks (stage_after Tasks) (stage_before Tasks) w
     may_work held = (held.0, n1, [], (is_settled held.0 held.1).stands.inside)
 
     pub work_fails : (w1 : WorldValue) → IsWorldKept w w1 → (earlier : Log) → MayPass old earlier → Passes may old earlier bus (Err no_memory) w1 b
@@ -141,11 +142,11 @@ module _ {may : List RuleValue → EntryValue → Type 0} (old : WorldValue) (d 
         (of_kept (λ M n. IsRunFront M earlier n1 n) w w1 kept (is_front w.mission earlier n1 [] Tasks Vote 4 w refl (is_settled earlier held).stands.inside))
 
     module _ (w1 : WorldValue) (made : Steps) (traces : List TraceValue) (kept : IsWorldKept w w1)
-        (worked : (earlier current : Log) (steps : Steps) → InCycle w.mission earlier current steps Tasks 5 4 w → HasDoneWork made traces earlier current w1) where
+        (worked : (earlier current : Log) (steps : Steps) → InCycle w.mission earlier current steps Tasks (stage_after Tasks) (stage_before Tasks) w → HasDoneWork made traces earlier current w1) where
       done_work : (earlier : Log) → MayPass old earlier → HasDoneWork made traces earlier n1 w1
       done_work earlier held = worked earlier n1 [] (is_settled earlier held).stands.inside
 
-      inside1 : (earlier : Log) → MayPass old earlier → IsWithinCycle Tasks 5 5 earlier n1 made w1 d1
+      inside1 : (earlier : Log) → MayPass old earlier → IsWithinCycle Tasks (stage_after Tasks) (stage_after Tasks) earlier n1 made w1 d1
       inside1 earlier held =
           let within = (is_settled earlier held).stands in
           let work = done_work earlier held in
@@ -156,14 +157,14 @@ module _ {may : List RuleValue → EntryValue → Type 0} (old : WorldValue) (d 
             charged = of_kept (λ M n. (q : Channel) → q < 7 → has d1.charged q ≡ list_any (is_charge n Switch q) n1) w w1 kept within.charged;
           }
 
-      pub may_vote : (earlier : Log) × MayPass old earlier → (earlier : Log) × (current : Log) × (steps : Steps) × IsWithinCycle Tasks 5 5 earlier current steps w1 d1
+      pub may_vote : (earlier : Log) × MayPass old earlier → (earlier : Log) × (current : Log) × (steps : Steps) × IsWithinCycle Tasks (stage_after Tasks) (stage_after Tasks) earlier current steps w1 d1
       may_vote held = (held.0, n1, made, inside1 held.0 held.1)
 
-      pub vote_halts : {h : Halt} {w2 : WorldValue} {d2 : Disturbance} {b2 : BusValue} → PassesPart may (IsWithinCycle Tasks 5 5) HasVoted (Err h) w1 w2 d1 d2 b b2 →
+      pub vote_halts : {h : Halt} {w2 : WorldValue} {d2 : Disturbance} {b2 : BusValue} → PassesPart may (IsWithinCycle Tasks (stage_after Tasks) (stage_after Tasks)) HasVoted (Err h) w1 w2 d1 d2 b b2 →
           (earlier : Log) → MayPass old earlier → Passes may old earlier bus (Err (halt_value h)) w2 b2
       vote_halts {h = h} v earlier held = halts_by earlier made (halt_value h) (goes_on (stays far1 kept) v) (v.ends earlier n1 made (inside1 earlier held))
 
-      module _ {lines : Seen LineValue} {w2 : WorldValue} {d2 : Disturbance} {b2 : BusValue} (v : PassesPart may (IsWithinCycle Tasks 5 5) HasVoted (Ok lines) w1 w2 d1 d2 b b2)
+      module _ {lines : Seen LineValue} {w2 : WorldValue} {d2 : Disturbance} {b2 : BusValue} (v : PassesPart may (IsWithinCycle Tasks (stage_after Tasks) (stage_after Tasks)) HasVoted (Ok lines) w1 w2 d1 d2 b b2)
           (joining : ChannelSet) (are : joining ≡ targets_of (transfer_of_pair s.transfer)) where
         n2 : Log
         n2 = n1 ++ v.entries
@@ -176,8 +177,8 @@ module _ {may : List RuleValue → EntryValue → Type 0} (old : WorldValue) (d 
         stay2 : (earlier : Log) → MayPass old earlier → RoundsStay w.mission (earlier ++ n1) v.entries w.done
         unfolding n2
         stay2 earlier held =
-            let inside : InCycle w.mission earlier (n1 ++ v.entries) made Vote 6 6 w2 =
-            subst (λ (M : MissionValue). InCycle M earlier (n1 ++ v.entries) made Vote 6 6 w2) (v.mission ∙ kept.mission) (has_voted earlier held).stands.inside in
+            let inside : InCycle w.mission earlier (n1 ++ v.entries) made Vote (stage_after Vote) (stage_after Vote) w2 =
+            subst (λ (M : MissionValue). InCycle M earlier (n1 ++ v.entries) made Vote (stage_after Vote) (stage_after Vote) w2) (v.mission ∙ kept.mission) (has_voted earlier held).stands.inside in
             rounds_later w.mission (earlier ++ n1) v.entries w.done 5
             (follows w.mission earlier n1 v.entries [] made Tasks Vote 5 4 6 6 w w2 (v.done ∙ kept.done) (is_settled earlier held).stands.inside inside) (omega arith)
 
@@ -240,15 +241,15 @@ module _ {may : List RuleValue → EntryValue → Type 0} (old : WorldValue) (d 
               let later = v.entries ++ r.entries in
               let all : n1 ++ later ≡ n3 = sym (append_assoc n1 v.entries r.entries) in
               -- from the work on
-              let inside1 : InCycle M earlier n1 [] Tasks 5 4 w = subst (λ (X : MissionValue). InCycle X earlier n1 [] Tasks 5 4 w) (sym m3) (is_settled earlier held).stands.inside in
+              let inside1 : InCycle M earlier n1 [] Tasks (stage_after Tasks) (stage_before Tasks) w = subst (λ (X : MissionValue). InCycle X earlier n1 [] Tasks (stage_after Tasks) (stage_before Tasks) w) (sym m3) (is_settled earlier held).stands.inside in
               let since1 : AreFromPlace w.done 5 later =
-              follows M earlier n1 later [] made Tasks Switch 5 4 9 9 w w3 c3 inside1 (subst (λ (x : Log). InCycle M earlier x made Switch 9 9 w3) (sym all) last.stands.inside) in
+              follows M earlier n1 later [] made Tasks Switch 5 4 9 9 w w3 c3 inside1 (subst (λ (x : Log). InCycle M earlier x made Switch (stage_after Switch) (stage_after Switch) w3) (sym all) last.stands.inside) in
               let stay1 : RoundsStay M (earlier ++ n1) later n = subst (λ (k : ℕ). RoundsStay M (earlier ++ n1) later k) (sym c3) (rounds_later M (earlier ++ n1) later w.done 5 since1 (omega arith)) in
               let log1 : (earlier ++ n1) ++ later ≡ earlier ++ n3 = append_assoc earlier n1 later ∙ ap (λ (x : Log). earlier ++ x) all in
               let same1 : (cycle_at M (earlier ++ n3) n).decision ≡ (cycle_at M (earlier ++ n1) n).decision = ap (λ (x : Log). (cycle_at M x n).decision) (sym log1) ∙ stay1.decision in
               let open1 : (cycle_at M (earlier ++ n3) n).opening ≡ (cycle_at M (earlier ++ n1) n).opening = ap (λ (x : Log). (cycle_at M x n).opening) (sym log1) ∙ stay1.opening in
               -- from the vote on
-              let inside2 : InCycle M earlier n2 made Vote 6 6 w2 = subst (λ (X : MissionValue). InCycle X earlier n2 made Vote 6 6 w2) (sym r.mission) (has_voted earlier held).stands.inside in
+              let inside2 : InCycle M earlier n2 made Vote (stage_after Vote) (stage_after Vote) w2 = subst (λ (X : MissionValue). InCycle X earlier n2 made Vote (stage_after Vote) (stage_after Vote) w2) (sym r.mission) (has_voted earlier held).stands.inside in
               let stay2 : VoteStays M (earlier ++ n2) r.entries n = subst (λ (k : ℕ). VoteStays M (earlier ++ n2) r.entries k) (sym r.done)
               (vote_later M (earlier ++ n2) r.entries w2.done 6 (follows M earlier n2 r.entries made made Vote Switch 6 6 9 9 w2 w3 r.done inside2 last.stands.inside) (omega arith)) in
               let log2 : (earlier ++ n2) ++ r.entries ≡ earlier ++ n3 = append_assoc earlier n2 r.entries in

@@ -3,7 +3,7 @@ use Rattle.std.proofs.Common.{◌≡◌, ℕ, ◌<◌, true, List, ◌++◌, sym
 use Rattle.std.specs.List.{list_any}
 use Rattle.guards_model.specs.declared.Slot.{Slot}
 use Rattle.guards_model.specs.declared.Slot.TheVariants.{Tasks, Switch}
-use Rattle.guards_model.specs.Slots.{slot_index, up_to, on_bus}
+use Rattle.guards_model.specs.Slots.{slot_index, up_to, on_bus, stage_before}
 use Rattle.guards_model.specs.Channels.{Channel, has}
 use Rattle.guards_model.specs.Missions.{MissionValue}
 use Rattle.guards_model.specs.Network.{Log}
@@ -48,7 +48,7 @@ entered before slot carried handed earlier current steps old new d kept enters s
 
 -- so the slot may be carried to these receivers
 pub may_carry : (before slot : Slot) (to : List ℕ) (earlier current : Log) (steps : Steps) (old new : WorldValue) (d : Disturbance) → IsWorldKept old new → Enters slot old new →
-    up_to before slot ≡ true → on_bus slot ≡ true → IsWithinCycle before (slot_index slot) (slot_index slot) earlier current steps old d →
+    up_to before slot ≡ true → on_bus slot ≡ true → IsWithinCycle before (stage_before slot) (stage_before slot) earlier current steps old d →
     receivers (facts_in old (earlier ++ current)) slot ≡ to → MayCarry slot to earlier current steps new d
 may_carry before slot to earlier current steps old new d kept enters soon on within are =
     record {

@@ -6,7 +6,7 @@ use Rattle.std.proofs.lemmas.List.{append-nil, length-map}
 use Rattle.std.proofs.lemmas.List.FromFn.{length-range_with_len}
 use Rattle.guards_model.specs.declared.Slot.{Slot}
 use Rattle.guards_model.specs.declared.Slot.TheVariants.{Request}
-use Rattle.guards_model.specs.Slots.{up_to, on_bus}
+use Rattle.guards_model.specs.Slots.{up_to, on_bus, stage_after, stage_before}
 use Rattle.guards_model.specs.Channels.{Channel, ChannelSet, has, numbers_below, every_channel, by_channel, channels_where}
 use Rattle.guards_model.specs.Missions.{MissionValue, channels_of}
 use Rattle.guards_model.specs.Modes.{ModeValue, up, down, is_up}
@@ -93,12 +93,12 @@ opened_world w L steps ledger last newcomers fell nodes left stands l1 j n1 l2 d
     let opened = n1 ∙ all_opened M L n stands.mission steps w.nodes newcomers stands.nodes joins in
     let fallen_are : fell ≡ turned_down (ledger_at_start M.script n (ledger_at M past)) (ledger_in M e Request) =
     d ∙ ap (λ (l : LedgerValue). turned_down l last) first ∙ ap (turned_down (ledger_at_start M.script n (ledger_at M past))) next in
-    let entered : left ≡ nodes_in M L n steps Request 0 =
+    let entered : left ≡ nodes_in M L n steps Request (stage_before Request) =
     n2 ∙ ap (λ (s : ChannelSet). map (fallen_if s) nodes) fallen_are
     ∙ ap (map (fallen_if (turned_down (ledger_at_start M.script n (ledger_at M past)) (ledger_in M e Request)))) opened
     ∙ all_entered M L n stands.mission steps in
     ap (λ (ns : List NodeValue). record w { nodes = ns; ledger = last }) entered
-    ∙ ap (λ (l : LedgerValue). record w { nodes = nodes_in M L n steps Request 0; ledger = l }) next
+    ∙ ap (λ (l : LedgerValue). record w { nodes = nodes_in M L n steps Request (stage_before Request); ledger = l }) next
 
 -- ---- a slot
 
@@ -146,14 +146,14 @@ pub opens_by : (old w : WorldValue) (L : Log) (steps : Steps) (ledger last : Led
     ledger ≡ ledger_at_start w.mission.script w.done w.ledger → newcomers ≡ turned_joining w.ledger ledger →
     nodes ≡ map (opened_with w.mission w.done newcomers) w.nodes →
     last ≡ ledger_in_slot w.mission.script w.done Request ledger → fell ≡ turned_down ledger last → left ≡ map (fallen_if fell) nodes →
-    InCycle old.mission L [] steps Request 0 0 (record w { nodes = left; ledger = last })
+    InCycle old.mission L [] steps Request (stage_before Request) (stage_before Request) (record w { nodes = left; ledger = last })
 opens_by old w L steps ledger last newcomers fell nodes left same held below unspent l1 j n1 l2 d n2 =
     let stands : StandsForWorld w L = subst (λ (x : WorldValue). StandsForWorld x L) (sym same) held in
     let longer : StandsForWorld w (L ++ []) = subst (λ (x : Log). StandsForWorld w x) (sym (append-nil L)) stands in
     let inside = enters_cycle w L steps stands (subst (λ (x : WorldValue). x.done < x.mission.cycles) (sym same) below) (ap (λ (x : WorldValue). x.spent) same ∙ unspent) in
     let made = opened_world w (L ++ []) steps ledger last newcomers fell nodes left longer l1 j n1 l2 d n2 in
-    subst (λ (M : MissionValue). InCycle M L [] steps Request 0 0 (record w { nodes = left; ledger = last })) (ap (λ (x : WorldValue). x.mission) same)
-    (subst (λ (x : WorldValue). InCycle w.mission L [] steps Request 0 0 x) (sym made) inside)
+    subst (λ (M : MissionValue). InCycle M L [] steps Request (stage_before Request) (stage_before Request) (record w { nodes = left; ledger = last })) (ap (λ (x : WorldValue). x.mission) same)
+    (subst (λ (x : WorldValue). InCycle w.mission L [] steps Request (stage_before Request) (stage_before Request) x) (sym made) inside)
 
 -- a world that has entered a slot is in it
 pub enters_by : (old w : WorldValue) (earlier current : Log) (steps : Steps) (before slot : Slot) (carried handed : ℕ) (last : LedgerValue) (fell : ChannelSet) (left : List NodeValue) →
@@ -181,8 +181,8 @@ hands_by old w earlier current steps slot carried handed more left same held too
 
 -- the request slot
 pub heard_by : (old w : WorldValue) (earlier current : Log) (steps : Steps) (got : Bodies) → w ≡ old →
-    AreArrivals old.mission (earlier ++ current) old.done Request got → InCycle w.mission earlier current steps Request 1 0 w →
-    map (with_requests got) w.nodes ≡ nodes_in w.mission (earlier ++ current) w.done steps Request 1
+    AreArrivals old.mission (earlier ++ current) old.done Request got → InCycle w.mission earlier current steps Request (stage_after Request) (stage_before Request) w →
+    map (with_requests got) w.nodes ≡ nodes_in w.mission (earlier ++ current) w.done steps Request (stage_after Request)
 heard_by old w earlier current steps got same are inside =
     ap (map (with_requests got)) inside.nodes
     ∙ all_heard w.mission (earlier ++ current) w.done steps got inside.ranges

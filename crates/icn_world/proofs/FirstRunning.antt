@@ -2,7 +2,7 @@
 use Rattle.std.proofs.Common.{◌≡◌, ℕ, ◌==◌, ◌||◌, Bool, true, false, List, [], ◌∷◌, Option, Some, None, map, option_map, length, refl, sym, ap, ◌∙◌}
 use Rattle.std.specs.Option.{option_or, unwrap_or}
 use Rattle.std.proofs.lemmas.Bool.{eqb-true}
-use Rattle.guards_model.specs.declared.Slot.TheVariants.{Round3}
+use Rattle.guards_model.specs.declared.Slot.TheVariants.{Round3, Tasks}
 use Rattle.guards_model.specs.Channels.{Channel, ChannelSet, has}
 use Rattle.guards_model.specs.Controls.{control_decided, transfer_in, sweeping_for, SweepingValue}
 use Rattle.guards_model.specs.Missions.{MissionValue, channels_of}
@@ -10,6 +10,7 @@ use Rattle.guards_model.specs.Modes.{ModeValue, up, down, waiting, joining}
 use Rattle.guards_model.specs.Network.{Log}
 use Rattle.guards_model.specs.Rounds.{Steps}
 use Rattle.guards_model.specs.Transfers.{TransferValue}
+use Rattle.guards_model.specs.Slots.{stage_after, stage_before}
 use Rattle.guards_runs.specs.Cycles.{Past, Cycle, cycles_before, cycle_at, mode_in}
 use Rattle.guards_nodes.specs.NodeStates.{NodeValue, StateValue, RunningValue, JoinerValue, running_or_none}
 use Rattle.guards_world.specs.NodeFacts.{state_of_mode, running_value_in, joiner_in, state_in}
@@ -65,7 +66,7 @@ module _ (M : MissionValue) (L : Log) (n : ℕ) (steps : Steps) where
   transfer_of blocks c sweeping None = refl
   transfer_of blocks c sweeping (Some t) = refl
 
-  transfer_decided : (q : Channel) → transfer_in (running_value_in M past e steps 4 q).control.sweeping ≡ e.transfer
+  transfer_decided : (q : Channel) → transfer_in (running_value_in M past e steps (stage_before Tasks) q).control.sweeping ≡ e.transfer
   unfolding control_decided
   transfer_decided q = transfer_of M.rules.blocks (length past) _ e.transfer
 
@@ -73,16 +74,16 @@ module _ (M : MissionValue) (L : Log) (n : ℕ) (steps : Steps) where
   runs_up r j mode is = ap (state_of_mode r j) is
 
   module _ (q : Channel) (there : has (channels_of M) q ≡ true) (is : mode_in e q Round3 ≡ up) where
-    pub removed_is : (x : ChannelSet) × (first_removed (nodes_in M L n steps Round3 4) ≡ Some x) × (x ≡ e.removed)
+    pub removed_is : (x : ChannelSet) × (first_removed (nodes_in M L n steps Round3 (stage_after Round3)) ≡ Some x) × (x ≡ e.removed)
     unfolding state_in
     removed_is =
-        first_is removed_in first_removed (λ x. x ≡ e.removed) (node_in M L n steps Round3 4) (λ node nodes. refl)
-        (λ p x h. removed_of (running_value_in M past e steps 4 p) (joiner_in M past e 4 p) (mode_in e p Round3) e.removed x refl h)
-        q e.removed (ap removed_in (runs_up (running_value_in M past e steps 4 q) (joiner_in M past e 4 q) (mode_in e q Round3) is)) (channels_of M) there
+        first_is removed_in first_removed (λ x. x ≡ e.removed) (node_in M L n steps Round3 (stage_after Round3)) (λ node nodes. refl)
+        (λ p x h. removed_of (running_value_in M past e steps (stage_before Tasks) p) (joiner_in M past e (stage_before Tasks) p) (mode_in e p Round3) e.removed x refl h)
+        q e.removed (ap removed_in (runs_up (running_value_in M past e steps (stage_before Tasks) q) (joiner_in M past e (stage_before Tasks) q) (mode_in e q Round3) is)) (channels_of M) there
 
-    pub transfer_is : (r : RunningValue) × (lowest_running (nodes_in M L n steps Round3 4) ≡ Some r) × (transfer_in r.control.sweeping ≡ e.transfer)
+    pub transfer_is : (r : RunningValue) × (lowest_running (nodes_in M L n steps Round3 (stage_after Round3)) ≡ Some r) × (transfer_in r.control.sweeping ≡ e.transfer)
     unfolding state_in
     transfer_is =
-        first_is running_or_none lowest_running (λ r. transfer_in r.control.sweeping ≡ e.transfer) (node_in M L n steps Round3 4) (λ node nodes. refl)
-        (λ p r h. ap (λ (x : RunningValue). transfer_in x.control.sweeping) (running_of (running_value_in M past e steps 4 p) r (joiner_in M past e 4 p) (mode_in e p Round3) h) ∙ transfer_decided p)
-        q (running_value_in M past e steps 4 q) (ap running_or_none (runs_up (running_value_in M past e steps 4 q) (joiner_in M past e 4 q) (mode_in e q Round3) is)) (channels_of M) there
+        first_is running_or_none lowest_running (λ r. transfer_in r.control.sweeping ≡ e.transfer) (node_in M L n steps Round3 (stage_after Round3)) (λ node nodes. refl)
+        (λ p r h. ap (λ (x : RunningValue). transfer_in x.control.sweeping) (running_of (running_value_in M past e steps (stage_before Tasks) p) r (joiner_in M past e (stage_before Tasks) p) (mode_in e p Round3) h) ∙ transfer_decided p)
+        q (running_value_in M past e steps (stage_before Tasks) q) (ap running_or_none (runs_up (running_value_in M past e steps (stage_before Tasks) q) (joiner_in M past e (stage_before Tasks) q) (mode_in e q Round3) is)) (channels_of M) there

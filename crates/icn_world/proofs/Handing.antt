@@ -12,6 +12,7 @@ use Rattle.guards_model.specs.Network.{Log}
 use Rattle.guards_model.specs.Rounds.{Steps}
 use Rattle.guards_model.proofs.BoolTests.{both}
 use Rattle.guards_model.proofs.AscendingLists.{set_parts}
+use Rattle.guards_model.specs.Slots.{stage_after, stage_before}
 use Rattle.guards_laws.proofs.CycleParts.{active-is}
 use Rattle.guards_laws.proofs.WithinChannels.{active_is_set}
 use Rattle.guards_runs.specs.Cycles.{cycles_before, cycle_at, mode_in}
@@ -49,30 +50,30 @@ had_by r s j down d h is = absurd cc
 had_by r s j (waiting n) d h is = absurd cc
 had_by r s j joining d h is = absurd cc
 
-decision_of_vote : (M : MissionValue) (L : Log) (n : ℕ) (steps : Steps) (q : Channel) → HasDecision M (node_in M L n steps Vote 5 q)
+decision_of_vote : (M : MissionValue) (L : Log) (n : ℕ) (steps : Steps) (q : Channel) → HasDecision M (node_in M L n steps Vote (stage_before Vote) q)
 unfolding state_in
 decision_of_vote M L n steps q =
     record {
       rules = refl;
       had = λ s is. (
         _,
-        had_by (running_value_in M (cycles_before M L n) (cycle_at M L n) steps 5 q) s (joiner_in M (cycles_before M L n) (cycle_at M L n) 5 q)
+        had_by (running_value_in M (cycles_before M L n) (cycle_at M L n) steps (stage_before Vote) q) s (joiner_in M (cycles_before M L n) (cycle_at M L n) (stage_before Vote) q)
             (mode_in (cycle_at M L n) q Vote) _ refl is,
       );
     }
 
-pub may_vote_by : (old w : WorldValue) → w ≡ old → (earlier : Log) × (current : Log) × (steps : Steps) × InCycle old.mission earlier current steps Vote 6 5 old → All (HasDecision w.mission) w.nodes
+pub may_vote_by : (old w : WorldValue) → w ≡ old → (earlier : Log) × (current : Log) × (steps : Steps) × InCycle old.mission earlier current steps Vote (stage_after Vote) (stage_before Vote) old → All (HasDecision w.mission) w.nodes
 may_vote_by old w same held =
-    let inside : InCycle w.mission held.0 held.1 held.2 Vote 6 5 w = subst (λ (x : WorldValue). InCycle x.mission held.0 held.1 held.2 Vote 6 5 x) (sym same) held.3 in
+    let inside : InCycle w.mission held.0 held.1 held.2 Vote (stage_after Vote) (stage_before Vote) w = subst (λ (x : WorldValue). InCycle x.mission held.0 held.1 held.2 Vote (stage_after Vote) (stage_before Vote) x) (sym same) held.3 in
     subst (λ (nodes : List NodeValue). All (HasDecision w.mission) nodes) (sym inside.nodes)
-    (all_nodes w.mission (HasDecision w.mission) (node_in w.mission (held.0 ++ held.1) w.done held.2 Vote 5) inside.ranges
+    (all_nodes w.mission (HasDecision w.mission) (node_in w.mission (held.0 ++ held.1) w.done held.2 Vote (stage_before Vote)) inside.ranges
     (λ q low. decision_of_vote w.mission (held.0 ++ held.1) w.done held.2 q))
 
 -- ---- the slots
 
 pub voted_by : (old w : WorldValue) (earlier current : Log) (steps : Steps) (got : Bodies) → w ≡ old →
-    AreArrivals old.mission (earlier ++ current) old.done Vote got → HaveWorked old.mission (earlier ++ current) old.done → InCycle w.mission earlier current steps Vote 6 5 w →
-    map (with_votes w.mission got) w.nodes ≡ nodes_in w.mission (earlier ++ current) w.done steps Vote 6
+    AreArrivals old.mission (earlier ++ current) old.done Vote got → HaveWorked old.mission (earlier ++ current) old.done → InCycle w.mission earlier current steps Vote (stage_after Vote) (stage_before Vote) w →
+    map (with_votes w.mission got) w.nodes ≡ nodes_in w.mission (earlier ++ current) w.done steps Vote (stage_after Vote)
 voted_by old w earlier current steps got same are worked inside =
     ap (map (with_votes w.mission got)) inside.nodes
     ∙ all_voted w.mission (earlier ++ current) w.done steps inside.ranges got
@@ -80,8 +81,8 @@ voted_by old w earlier current steps got same are worked inside =
     (subst (λ (x : WorldValue). HaveWorked x.mission (earlier ++ current) x.done) (sym same) worked)
 
 pub filled_by : (old w : WorldValue) (earlier current : Log) (steps : Steps) (got : Bodies) (members : ChannelSet) → w ≡ old → members ≡ w.switches →
-    AreArrivals old.mission (earlier ++ current) old.done Final got → InCycle w.mission earlier current steps Final 8 7 w →
-    map (with_finals members got) w.nodes ≡ nodes_in w.mission (earlier ++ current) w.done steps Final 8
+    AreArrivals old.mission (earlier ++ current) old.done Final got → InCycle w.mission earlier current steps Final (stage_after Final) (stage_before Final) w →
+    map (with_finals members got) w.nodes ≡ nodes_in w.mission (earlier ++ current) w.done steps Final (stage_after Final)
 filled_by old w earlier current steps got members same on are inside =
     let M = w.mission in
     let all : Log = earlier ++ current in

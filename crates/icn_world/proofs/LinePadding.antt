@@ -19,6 +19,7 @@ use Rattle.guards_model.specs.Texts.{LineValue}
 use Rattle.guards_model.specs.Voting.{Ballots}
 use Rattle.guards_model.proofs.AscendingLists.{set_parts}
 use Rattle.guards_model.proofs.BoolTests.{both}
+use Rattle.guards_model.specs.Slots.{stage_before}
 use Rattle.guards_runs.specs.Cycles.{Past, Cycle, cycles_before, cycle_at, mode_in, decision_of}
 use Rattle.guards_laws.proofs.CycleParts.{active-is, inputs-is, decision-is}
 use Rattle.guards_laws.proofs.WithinChannels.{active_is_set, active_within, channels_few}
@@ -104,10 +105,10 @@ module _ (M : MissionValue) (L : Log) (n : ℕ) (steps : Steps) (mission : IsMis
       (λ q high. zero_at (has e.opening.active q) _ (λ there.
       omega (arith, high, active_within M L n q (ap (λ (s : ChannelSet). has s q) (sym (active-is M L past)) ∙ there))))
 
-  padded : (q : Channel) (ballots : Ballots) → IsLinePadded M (whole_line q M.outputs (running_value_in M past e steps 5 q) (kept_of e.decision e.inputs) ballots)
+  padded : (q : Channel) (ballots : Ballots) → IsLinePadded M (whole_line q M.outputs (running_value_in M past e steps (stage_before Vote) q) (kept_of e.decision e.inputs) ballots)
   unfolding control_decided
   padded q ballots =
-      let r : RunningValue = running_value_in M past e steps 5 q in
+      let r : RunningValue = running_value_in M past e steps (stage_before Vote) q in
       record {
         inputs = end_of M.width e.inputs (replicate (4 - length e.inputs) (pos 0)) wide ∙ ap (λ k. replicate (4 - k) (pos 0)) wide;
         votes = end_of (length M.outputs) (voted_by q M.outputs ballots r) (replicate (8 - length M.outputs) None)
@@ -115,11 +116,11 @@ module _ (M : MissionValue) (L : Log) (n : ℕ) (steps : Steps) (mission : IsMis
         counts = counts_end;
       }
 
-  padded_at : (got : Bodies) (q : Channel) → q < 7 → IfSome (vote_line M got (node_in M L n steps Vote 5 q)) (IsLinePadded M)
+  padded_at : (got : Bodies) (q : Channel) → q < 7 → IfSome (vote_line M got (node_in M L n steps Vote (stage_before Vote) q)) (IsLinePadded M)
   unfolding state_in
-  padded_at got q low = padded_by M got q (running_value_in M past e steps 5 q) (joiner_in M past e 5 q) (mode_in e q Vote) (padded q (ballots_arrived got q))
+  padded_at got q low = padded_by M got q (running_value_in M past e steps (stage_before Vote) q) (joiner_in M past e (stage_before Vote) q) (mode_in e q Vote) (padded q (ballots_arrived got q))
 
-  pub all_padded : (got : Bodies) → AllByRecursion (IsLinePadded M) (filter_map (vote_line M got) (nodes_in M L n steps Vote 5))
+  pub all_padded : (got : Bodies) → AllByRecursion (IsLinePadded M) (filter_map (vote_line M got) (nodes_in M L n steps Vote (stage_before Vote)))
   all_padded got =
-      each_of (IsLinePadded M) (vote_line M got) (node_in M L n steps Vote 5) (padded_at got) (channels_of M)
+      each_of (IsLinePadded M) (vote_line M got) (node_in M L n steps Vote (stage_before Vote)) (padded_at got) (channels_of M)
       (set_parts (channels_of M) (active_is_set M [] mission)).0

@@ -22,6 +22,7 @@ use Rattle.guards_model.proofs.Numbers.{sublists, every_set}
 use Rattle.guards_model.proofs.NumbersBelow.{below_there}
 use Rattle.guards_model.proofs.AscendingLists.{set-filter, set_parts}
 use Rattle.guards_model.proofs.Tables.{at-by_channel, has-filter}
+use Rattle.guards_model.specs.Slots.{stage_after, stage_before}
 use Rattle.guards_base.proofs.EachChannel.{sets_alike}
 use Rattle.guards_runs.specs.Cycles.{Past, Cycle, received_body, cycles_before, cycle_at, mode_in, active_set}
 use Rattle.guards_runs.specs.Report.{line_of}
@@ -153,25 +154,25 @@ module _ (M : MissionValue) (L : Log) (n : ℕ) (steps : Steps) (mission : IsMis
 
   -- the line of a running channel is the one of the report
   line-is : (got : Bodies) → AreArrivals M L n Vote got → HaveWorked M L n → (q : Channel) → q < 7 → mode_in e q Vote ≡ up →
-      shown_of M (whole_line q M.outputs (running_value_in M past e steps 5 q) (kept_of e.decision e.inputs) (ballots_arrived got q)) ≡ line_of M e q
+      shown_of M (whole_line q M.outputs (running_value_in M past e steps (stage_before Vote) q) (kept_of e.decision e.inputs) (ballots_arrived got q)) ≡ line_of M e q
   line-is got are worked q low is =
       let held = worked q low is in
-      shown_is M.rules M.width q M.outputs (running_value_in M past e steps 5 q) (kept_of e.decision e.inputs) (ballots_arrived got q) wide
+      shown_is M.rules M.width q M.outputs (running_value_in M past e steps (stage_before Vote) q) (kept_of e.decision e.inputs) (ballots_arrived got q) wide
       ∙ lines M L past steps q (controls_follow M L n) low (active_in M L n mission q low Vote is) held.0 held.1 (ballots_arrived got q)
       (λ j small other. at-by_channel (λ p. ballot_of (got p q)) j None small
       ∙ ap ballot_of (are j q ∙ ap (λ c. received_body M e.entries c Vote j q) (sym (length-cycles_before M L n))))
 
   told : (got : Bodies) → AreArrivals M L n Vote got → HaveWorked M L n → (q : Channel) → q < 7 →
-      option_map (shown_of M) (vote_line M got (node_in M L n steps Vote 5 q)) ≡ cond (is_up (mode_in e q Vote)) (Some (line_of M e q)) None
+      option_map (shown_of M) (vote_line M got (node_in M L n steps Vote (stage_before Vote) q)) ≡ cond (is_up (mode_in e q Vote)) (Some (line_of M e q)) None
   unfolding state_in
   told got are worked q low =
-      told_by M got q (running_value_in M past e steps 5 q) (joiner_in M past e 5 q) (mode_in e q Vote) (line_of M e q)
+      told_by M got q (running_value_in M past e steps (stage_before Vote) q) (joiner_in M past e (stage_before Vote) q) (mode_in e q Vote) (line_of M e q)
       (λ is. ap Some (line-is got are worked q low is))
 
   pub all_told : (got : Bodies) → AreArrivals M L n Vote got → HaveWorked M L n →
-      AreLinesOf M e Vote (filter_map (vote_line M got) (nodes_in M L n steps Vote 5))
+      AreLinesOf M e Vote (filter_map (vote_line M got) (nodes_in M L n steps Vote (stage_before Vote)))
   all_told got are worked = (
-    told_of (vote_line M got) (node_in M L n steps Vote 5) (shown_of M) (λ q. is_up (mode_in e q Vote)) (line_of M e) (told got are worked)
+    told_of (vote_line M got) (node_in M L n steps Vote (stage_before Vote)) (shown_of M) (λ q. is_up (mode_in e q Vote)) (line_of M e) (told got are worked)
         (channels_of M) (set_parts (channels_of M) (active_is_set M [] mission)).0
         ∙ ap (map (line_of M e)) (up_are_running M L n Vote mission),
     all_padded M L n steps mission got,
@@ -179,7 +180,7 @@ module _ (M : MissionValue) (L : Log) (n : ℕ) (steps : Steps) (mission : IsMis
 
 -- the world's nodes tell these lines
 pub tells_by : (old w : WorldValue) (earlier current : Log) (steps : Steps) (got : Bodies) (items : List LineValue) → w ≡ old →
-    items ≡ filter_map (vote_line w.mission got) w.nodes → InCycle old.mission earlier current steps Vote 6 5 old →
+    items ≡ filter_map (vote_line w.mission got) w.nodes → InCycle old.mission earlier current steps Vote (stage_after Vote) (stage_before Vote) old →
     AreArrivals old.mission (earlier ++ current) old.done Vote got → HaveWorked old.mission (earlier ++ current) old.done →
     AreLinesOf old.mission (cycle_at old.mission (earlier ++ current) old.done) Vote items
 tells_by old w earlier current steps got items same is inside are worked =

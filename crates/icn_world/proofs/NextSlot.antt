@@ -2,7 +2,7 @@
 use Rattle.std.proofs.Common.{◌≡◌, true, List, ◌++◌, Result, Ok, refl}
 use Rattle.guards_model.specs.declared.Slot.{Slot}
 use Rattle.guards_model.specs.declared.Slot.TheVariants.{Round3, Tasks}
-use Rattle.guards_model.specs.Slots.{slot_index, up_to}
+use Rattle.guards_model.specs.Slots.{slot_index, up_to, stage_before}
 use Rattle.guards_model.specs.BusRules.{RuleValue}
 use Rattle.guards_model.specs.Network.{EntryValue, Log, BusValue}
 use Rattle.guards_model.specs.Rounds.{Steps}
@@ -18,7 +18,7 @@ use Rattle.icn_world.proofs.RoundStages.{settled_stays}
 
 -- the part leaves the world in a slot, from which the next one may be entered
 abbrev pub Leaves : Condition → Slot → Slot → WorldValue → Disturbance → Type 0
-Leaves Q before slot w d = (earlier current : Log) (steps : Steps) → Q earlier current steps w d → IsWithinCycle before (slot_index slot) (slot_index slot) earlier current steps w d
+Leaves Q before slot w d = (earlier current : Log) (steps : Steps) → Q earlier current steps w d → IsWithinCycle before (stage_before slot) (stage_before slot) earlier current steps w d
 
 pub then_slot : {A B : Type 0} {may : List RuleValue → EntryValue → Type 0} {P : Condition} {Q : A → Condition} {R : B → Condition}
     {x : A} {r : Result B Halt} {w w1 w2 : WorldValue} {d d1 d2 : Disturbance} {b b1 b2 : BusValue} (before slot : Slot) → up_to before slot ≡ true →

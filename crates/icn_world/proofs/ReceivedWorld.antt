@@ -2,7 +2,7 @@
 use Rattle.std.proofs.Common.{◌≡◌, ℕ, suc, ◌≤◌, ◌+◌, true, false, List, ◌++◌, All, map, sym, ap, subst, ◌∙◌}
 use Rattle.std.specs.Prelude.{nat_le}
 use Rattle.guards_model.specs.declared.Slot.{Slot}
-use Rattle.guards_model.specs.Slots.{slot_index, round_number}
+use Rattle.guards_model.specs.Slots.{slot_index, round_number, stage_after, stage_before}
 use Rattle.guards_model.specs.Channels.{ChannelSet, tolerated_faults}
 use Rattle.guards_model.specs.Network.{Log}
 use Rattle.guards_model.specs.Rounds.{Steps}
@@ -22,14 +22,14 @@ use Rattle.icn_world.proofs.WorldReceived.{number_is, tested, may_be_received, n
 -- the slot of a round is carried, and this arrived
 abbrev IsCarried : WorldValue → Slot → Bodies → Type 0
 IsCarried w slot got =
-    (earlier : Log) × (current : Log) × (steps : Steps) × InCycle w.mission earlier current steps slot (suc (slot_index slot)) (slot_index slot) w
+    (earlier : Log) × (current : Log) × (steps : Steps) × InCycle w.mission earlier current steps slot (stage_after slot) (stage_before slot) w
     × AreArrivals w.mission (earlier ++ current) w.done slot got
 
 module _ (old w : WorldValue) (same : w ≡ old) (slot : Slot) (some : 1 ≤ round_number slot) where
   -- the world as it is opened is in the cycle too
-  within : (earlier current : Log) (steps : Steps) → InCycle old.mission earlier current steps slot (suc (slot_index slot)) (slot_index slot) old →
-      InCycle w.mission earlier current steps slot (suc (slot_index slot)) (slot_index slot) w
-  within earlier current steps inside = subst (λ (x : WorldValue). InCycle x.mission earlier current steps slot (suc (slot_index slot)) (slot_index slot) x) (sym same) inside
+  within : (earlier current : Log) (steps : Steps) → InCycle old.mission earlier current steps slot (stage_after slot) (stage_before slot) old →
+      InCycle w.mission earlier current steps slot (stage_after slot) (stage_before slot) w
+  within earlier current steps inside = subst (λ (x : WorldValue). InCycle x.mission earlier current steps slot (stage_after slot) (stage_before slot) x) (sym same) inside
 
   pub may_receive_by : (arrived : ArrivedValue) → IsCarried old slot (got_of arrived) → (round : ℕ) → round ≡ slot_index slot →
       (members : ChannelSet) → members ≡ w.switches → nat_le round (tolerated_faults members + 1) ≡ true →
@@ -48,7 +48,7 @@ module _ (old w : WorldValue) (same : w ≡ old) (slot : Slot) (some : 1 ≤ rou
       ap (λ (nodes : List NodeValue). record w { nodes = nodes }) is
       ∙ ap (λ (x : WorldValue). record x { nodes = nodes_received x.mission (earlier ++ current) x.done (round_number slot) got x.nodes }) same
 
-  pub received_by : (earlier current : Log) (steps : Steps) → InCycle old.mission earlier current steps slot (suc (slot_index slot)) (slot_index slot) old →
+  pub received_by : (earlier current : Log) (steps : Steps) → InCycle old.mission earlier current steps slot (stage_after slot) (stage_before slot) old →
       (round : ℕ) → round ≡ slot_index slot → (members : ChannelSet) → members ≡ w.switches → nat_le round (tolerated_faults members + 1) ≡ true →
       (got : Bodies) (left : List NodeValue) →
       ((received : AllReceived) → All (MayReceive round members received) w.nodes → left ≡ map (with_exchanges round members got received) w.nodes) →
@@ -58,7 +58,7 @@ module _ (old w : WorldValue) (same : w ≡ old) (slot : Slot) (some : 1 ≤ rou
       with_nodes earlier current got left
       (nodes_are_received w earlier current steps slot some inside round number members are got left (sym (tested w earlier current steps slot some inside round number members are) ∙ there) took)
 
-  pub unreceived_by : (earlier current : Log) (steps : Steps) → InCycle old.mission earlier current steps slot (suc (slot_index slot)) (slot_index slot) old →
+  pub unreceived_by : (earlier current : Log) (steps : Steps) → InCycle old.mission earlier current steps slot (stage_after slot) (stage_before slot) old →
       (round : ℕ) → round ≡ slot_index slot → (members : ChannelSet) → members ≡ w.switches → nat_le round (tolerated_faults members + 1) ≡ false →
       (got : Bodies) → old ≡ record old { nodes = nodes_received old.mission (earlier ++ current) old.done (round_number slot) got old.nodes }
   unreceived_by earlier current steps held round number members are none got =

@@ -6,7 +6,7 @@ use Rattle.std.proofs.lemmas.Bool.{leb-true, le-leb}
 use Rattle.std.proofs.lemmas.List.Elements.{All-nil, All-cons, All-tail}
 use Rattle.guards_model.specs.declared.Slot.{Slot}
 use Rattle.guards_model.specs.declared.Slot.TheVariants.{Request, Round1, Round2, Round3, Tasks, Vote, Sweep, Final, Switch, Output}
-use Rattle.guards_model.specs.Slots.{slot_index, round_number}
+use Rattle.guards_model.specs.Slots.{slot_index, round_number, stage_after, stage_before}
 use Rattle.guards_model.specs.Channels.{Channel, ChannelSet, without, has, tolerated_faults}
 use Rattle.guards_model.specs.Missions.{MissionValue, IsMission}
 use Rattle.guards_model.specs.Frames.{ItemValue, is_channel, is_set}
@@ -132,15 +132,15 @@ module _ (M : MissionValue) (L : Log) (n : ℕ) (steps : Steps) (mission : IsMis
   abbrev May : Slot → Type 0
   May slot =
       is_round e (round_number slot) ≡ true →
-      All (MayReceive (round_number slot) e.active (received_through M past e (round_number slot))) (nodes_in M L n steps slot (slot_index slot))
+      All (MayReceive (round_number slot) e.active (received_through M past e (round_number slot))) (nodes_in M L n steps slot (stage_before slot))
 
   pub all_may_receive : (slot : Slot) → 1 ≤ round_number slot → May slot
   all_may_receive Round1 some there =
-      all_nodes M (MayReceive 1 e.active (received_through M past e 1)) (node_in M L n steps Round1 1) mission (λ q low. may_of Round1 1 (λ q j. refl) there q)
+      all_nodes M (MayReceive 1 e.active (received_through M past e (stage_before Round1))) (node_in M L n steps Round1 (stage_before Round1)) mission (λ q low. may_of Round1 1 (λ q j. refl) there q)
   all_may_receive Round2 some there =
-      all_nodes M (MayReceive 2 e.active (received_through M past e 2)) (node_in M L n steps Round2 2) mission (λ q low. may_of Round2 2 (λ q j. refl) there q)
+      all_nodes M (MayReceive 2 e.active (received_through M past e (stage_before Round2))) (node_in M L n steps Round2 (stage_before Round2)) mission (λ q low. may_of Round2 2 (λ q j. refl) there q)
   all_may_receive Round3 some there =
-      all_nodes M (MayReceive 3 e.active (received_through M past e 3)) (node_in M L n steps Round3 3) mission (λ q low. may_of Round3 3 (λ q j. refl) there q)
+      all_nodes M (MayReceive 3 e.active (received_through M past e (stage_before Round3))) (node_in M L n steps Round3 (stage_before Round3)) mission (λ q low. may_of Round3 3 (λ q j. refl) there q)
   all_may_receive Request some there = absurd (omega (arith, some))
   all_may_receive Tasks some there = absurd (omega (arith, some))
   all_may_receive Vote some there = absurd (omega (arith, some))
@@ -155,14 +155,14 @@ module _ (M : MissionValue) (L : Log) (n : ℕ) (steps : Steps) (mission : IsMis
   first_is = le-leb 1 (tolerated_faults e.active + 1) (omega arith)
 
   abbrev IsHandedOver : Slot → Bodies → Type 0
-  IsHandedOver slot got = nodes_received M L n (round_number slot) got (nodes_in M L n steps slot (slot_index slot)) ≡ nodes_in M L n steps slot (suc (slot_index slot))
+  IsHandedOver slot got = nodes_received M L n (round_number slot) got (nodes_in M L n steps slot (stage_before slot)) ≡ nodes_in M L n steps slot (stage_after slot)
 
   pub early_received : (slot : Slot) (got : Bodies) → 1 ≤ round_number slot → round_number slot ≤ 2 → AreArrivals M L n slot got → IsHandedOver slot got
   early_received Round1 got some few are =
-      either (is_round e 1) _ (nodes_in M L n steps Round1 1) (nodes_in M L n steps Round1 2) (all_first M L n steps mission got are)
+      either (is_round e 1) _ (nodes_in M L n steps Round1 (stage_before Round1)) (nodes_in M L n steps Round1 (stage_after Round1)) (all_first M L n steps mission got are)
       (λ none. differ (sym first_is ∙ none))
   early_received Round2 got some few are =
-      either (is_round e 2) _ (nodes_in M L n steps Round2 2) (nodes_in M L n steps Round2 3) (all_second M L n steps mission got are) (no_second M L n steps mission)
+      either (is_round e 2) _ (nodes_in M L n steps Round2 (stage_before Round2)) (nodes_in M L n steps Round2 (stage_after Round2)) (all_second M L n steps mission got are) (no_second M L n steps mission)
   early_received Round3 got some few are = absurd (omega (arith, few))
   early_received Request got some few are = absurd (omega (arith, some))
   early_received Tasks got some few are = absurd (omega (arith, some))
@@ -181,62 +181,62 @@ module _ (M : MissionValue) (L : Log) (n : ℕ) (steps : Steps) (mission : IsMis
   others_low q = all-filter is_channel (λ p. not (has (q ∷ []) p)) e.active (set_parts e.active (ap is_set (active-is M L past) ∙ active_is_set M past mission)).0
 
   last_received : (got : Bodies) → AreArrivals M L n Round3 got → is_round e 3 ≡ true → (q : Channel) →
-      with_round 3 (λ j. items_of (got j q)) (without e.active (q ∷ [])) (received_through M past e 3 q) ≡ received_through M past e 4 q
+      with_round 3 (λ j. items_of (got j q)) (without e.active (q ∷ [])) (received_through M past e (stage_before Round3) q) ≡ received_through M past e (stage_before Tasks) q
   last_received got are there q =
-      alike_round 3 (λ j. items_of (got j q)) (items_in (received_items M e.entries (length past) q) 3) (without e.active (q ∷ [])) (received_through M past e 3 q) (others_low q)
+      alike_round 3 (λ j. items_of (got j q)) (items_in (received_items M e.entries (length past) q) 3) (without e.active (q ∷ [])) (received_through M past e (stage_before Round3) q) (others_low q)
       (λ j low. ap items_of (are j q) ∙ ap (λ (c : ℕ). items_of (received_body M e.entries c Round3 j q)) (sym size)
       ∙ sym (at-by_channel (λ p. items_of (received_body M e.entries (length past) Round3 p q)) j [] low))
       ∙ receives M past e q 3 (omega arith) there
 
   abbrev last_nodes : Bodies → List NodeValue
-  last_nodes got = nodes_received M L n 3 got (nodes_in M L n steps Round3 3)
+  last_nodes got = nodes_received M L n 3 got (nodes_in M L n steps Round3 (stage_before Round3))
 
   abbrev receive_last : Bodies → NodeValue → NodeValue
-  receive_last got = with_exchanges 3 e.active got (received_through M past e 3)
+  receive_last got = with_exchanges 3 e.active got (received_through M past e (stage_before Round3))
 
-  pub last_stand : (got : Bodies) → AreArrivals M L n Round3 got → All (StandsForReceived (received_through M past e 4)) (last_nodes got)
+  pub last_stand : (got : Bodies) → AreArrivals M L n Round3 got → All (StandsForReceived (received_through M past e (stage_before Tasks))) (last_nodes got)
   last_stand got are =
-      let P : NodeValue → Type 0 = StandsForReceived (received_through M past e 4) in
-      either_holds (All P) (is_round e 3) (map (receive_last got) (nodes_in M L n steps Round3 3)) (nodes_in M L n steps Round3 3)
-      (λ there. all_made (StandsForReceived (received_through M past e 3)) P (receive_last got)
+      let P : NodeValue → Type 0 = StandsForReceived (received_through M past e (stage_before Tasks)) in
+      either_holds (All P) (is_round e 3) (map (receive_last got) (nodes_in M L n steps Round3 (stage_before Round3))) (nodes_in M L n steps Round3 (stage_before Round3))
+      (λ there. all_made (StandsForReceived (received_through M past e (stage_before Round3))) P (receive_last got)
       (λ node was. record {
         stands =
-            stands_after 3 (λ j. items_of (got j node.channel)) (received_through M past e 3 node.channel) (received_through M past e 4 node.channel)
+            stands_after 3 (λ j. items_of (got j node.channel)) (received_through M past e (stage_before Round3) node.channel) (received_through M past e (stage_before Tasks) node.channel)
             (without e.active (node.channel ∷ [])) node.state (last_received got are there node.channel);
       })
-      (nodes_in M L n steps Round3 3)
-      (all_nodes M (StandsForReceived (received_through M past e 3)) (node_in M L n steps Round3 3) mission (λ q low. record { stands = stands M past e steps Round3 3 q })))
-      (λ none. all_nodes M P (node_in M L n steps Round3 3) mission
+      (nodes_in M L n steps Round3 (stage_before Round3))
+      (all_nodes M (StandsForReceived (received_through M past e (stage_before Round3))) (node_in M L n steps Round3 (stage_before Round3)) mission (λ q low. record { stands = stands M past e steps Round3 3 q })))
+      (λ none. all_nodes M P (node_in M L n steps Round3 (stage_before Round3)) mission
       (λ q low. record {
-        stands = subst (λ (x : Received). StandsFor (state_in M past e steps Round3 3 q) x) (none_received M past e q 3 none) (stands M past e steps Round3 3 q);
+        stands = subst (λ (x : Received). StandsFor (state_in M past e steps Round3 (stage_before Round3) q) x) (none_received M past e q 3 none) (stands M past e steps Round3 3 q);
       }))
 
-  may_decide_of : (q : Channel) → MayDecide M (node_in M L n steps Round3 3 q)
+  may_decide_of : (q : Channel) → MayDecide M (node_in M L n steps Round3 (stage_before Round3) q)
   unfolding state_in
   may_decide_of q =
       record {
         rules = refl;
         begun = λ r is. (
           facts.tree_value_in M past e 3 q,
-          begun_by (running_value_in M past e steps 3 q) r (joiner_in M past e 3 q) (mode_in e q Round3) (facts.tree_value_in M past e 3 q) refl is,
+          begun_by (running_value_in M past e steps (stage_before Round3) q) r (joiner_in M past e (stage_before Round3) q) (mode_in e q Round3) (facts.tree_value_in M past e 3 q) refl is,
         );
       }
 
   pub last_may_decide : (got : Bodies) → All (MayDecide M) (last_nodes got)
   last_may_decide got =
-      let all : All (MayDecide M) (nodes_in M L n steps Round3 3) = all_nodes M (MayDecide M) (node_in M L n steps Round3 3) mission (λ q low. may_decide_of q) in
-      either_holds (All (MayDecide M)) (is_round e 3) (map (receive_last got) (nodes_in M L n steps Round3 3)) (nodes_in M L n steps Round3 3)
+      let all : All (MayDecide M) (nodes_in M L n steps Round3 (stage_before Round3)) = all_nodes M (MayDecide M) (node_in M L n steps Round3 (stage_before Round3)) mission (λ q low. may_decide_of q) in
+      either_holds (All (MayDecide M)) (is_round e 3) (map (receive_last got) (nodes_in M L n steps Round3 (stage_before Round3))) (nodes_in M L n steps Round3 (stage_before Round3))
       (λ there. all_made (MayDecide M) (MayDecide M) (receive_last got)
       (λ node may. record {
         rules = may.rules;
-        begun = begun_after 3 (λ j. items_of (got j node.channel)) (received_through M past e 3 node.channel) (without e.active (node.channel ∷ [])) node.state may.begun;
+        begun = begun_after 3 (λ j. items_of (got j node.channel)) (received_through M past e (stage_before Round3) node.channel) (without e.active (node.channel ∷ [])) node.state may.begun;
       })
-      (nodes_in M L n steps Round3 3) all)
+      (nodes_in M L n steps Round3 (stage_before Round3)) all)
       (λ none. all)
 
   pub last_decided : (got : Bodies) → AreArrivals M L n Round3 got → ((q : Channel) → q < 7 → mode_in e q Round3 ≡ up → DecidesAlike M past e q) →
-      map (with_decisions M n (received_through M past e 4)) (last_nodes got) ≡ nodes_in M L n steps Round3 4
+      map (with_decisions M n (received_through M past e (stage_before Tasks))) (last_nodes got) ≡ nodes_in M L n steps Round3 (stage_after Round3)
   last_decided got are alike =
-      either_holds (λ (nodes : List NodeValue). map (with_decisions M n (received_through M past e 4)) nodes ≡ nodes_in M L n steps Round3 4) (is_round e 3)
-      (map (receive_last got) (nodes_in M L n steps Round3 3)) (nodes_in M L n steps Round3 3)
+      either_holds (λ (nodes : List NodeValue). map (with_decisions M n (received_through M past e (stage_before Tasks))) nodes ≡ nodes_in M L n steps Round3 (stage_after Round3)) (is_round e 3)
+      (map (receive_last got) (nodes_in M L n steps Round3 (stage_before Round3))) (nodes_in M L n steps Round3 (stage_before Round3))
       (λ there. all_decided M L n steps mission got are there alike) (λ none. all_decided_early M L n steps mission none alike)

@@ -9,6 +9,7 @@ use Rattle.guards_model.specs.Missions.{MissionValue}
 use Rattle.guards_model.specs.Network.{EntryValue, Log, switchboard, BusValue}
 use Rattle.guards_model.specs.Rounds.{Steps}
 use Rattle.guards_model.specs.Switchboard.{set_of}
+use Rattle.guards_model.specs.Slots.{stage_after, stage_before}
 use Rattle.guards_runs.specs.Cycles.{cycle_at}
 use Rattle.guards_runs.specs.ControlFacts.{closed_of}
 use Rattle.guards_world.specs.Worlds.{WorldValue, facts_in}
@@ -43,12 +44,12 @@ may_take joined w w1 d kept enters earlier current steps held =
     may_carry Sweep Final joined earlier current steps w w1 d kept enters refl refl held.stands (sym held.joined_are)
 
 pub may_switch : (w w1 : WorldValue) (d : Disturbance) → IsWorldKept w w1 → Enters Switch w w1 → (earlier current : Log) (steps : Steps) →
-    IsWithinCycle Final 8 8 earlier current steps w d → MayCarry Switch (switchboard ∷ []) earlier current steps w1 d
+    IsWithinCycle Final (stage_after Final) (stage_after Final) earlier current steps w d → MayCarry Switch (switchboard ∷ []) earlier current steps w1 d
 may_switch w w1 d kept enters earlier current steps held = may_carry Final Switch (switchboard ∷ []) earlier current steps w w1 d kept enters refl refl held refl
 
 pub closes : (arrived : ArrivedValue) (closed : Closed) (w x : WorldValue) (d : Disturbance) → IsWorldKept w x →
-    ((earlier current : Log) (steps : Steps) → InCycle w.mission earlier current steps Sweep 7 6 w → AreArrivals w.mission (earlier ++ current) w.done Sweep (got_of arrived) → InCycle w.mission earlier current steps Sweep 7 7 x) →
-    ((earlier current : Log) (steps : Steps) → InCycle w.mission earlier current steps Sweep 7 6 w → closed_value closed ≡ closed_of (cycle_at w.mission (earlier ++ current) w.done)) →
+    ((earlier current : Log) (steps : Steps) → InCycle w.mission earlier current steps Sweep (stage_after Sweep) (stage_before Sweep) w → AreArrivals w.mission (earlier ++ current) w.done Sweep (got_of arrived) → InCycle w.mission earlier current steps Sweep (stage_after Sweep) (stage_after Sweep) x) →
+    ((earlier current : Log) (steps : Steps) → InCycle w.mission earlier current steps Sweep (stage_after Sweep) (stage_before Sweep) w → closed_value closed ≡ closed_of (cycle_at w.mission (earlier ++ current) w.done)) →
     (earlier current : Log) (steps : Steps) → HasArrived Sweep arrived earlier current steps w d → HasClosed closed earlier current steps x d
 closes arrived closed w x d kept state answer earlier current steps has =
     record {
@@ -57,8 +58,8 @@ closes arrived closed w x d kept state answer earlier current steps has =
     }
 
 pub takes : (arrived : ArrivedValue) (taken : ChannelSet) (w x : WorldValue) (d : Disturbance) → IsWorldKept w x →
-    ((earlier current : Log) (steps : Steps) → InCycle w.mission earlier current steps Final 8 7 w → AreArrivals w.mission (earlier ++ current) w.done Final (got_of arrived) → InCycle w.mission earlier current steps Final 8 8 x) →
-    ((earlier current : Log) (steps : Steps) → InCycle w.mission earlier current steps Final 8 7 w → AreArrivals w.mission (earlier ++ current) w.done Final (got_of arrived) → HaveTaken taken w.mission (earlier ++ current) w.done steps) →
+    ((earlier current : Log) (steps : Steps) → InCycle w.mission earlier current steps Final (stage_after Final) (stage_before Final) w → AreArrivals w.mission (earlier ++ current) w.done Final (got_of arrived) → InCycle w.mission earlier current steps Final (stage_after Final) (stage_after Final) x) →
+    ((earlier current : Log) (steps : Steps) → InCycle w.mission earlier current steps Final (stage_after Final) (stage_before Final) w → AreArrivals w.mission (earlier ++ current) w.done Final (got_of arrived) → HaveTaken taken w.mission (earlier ++ current) w.done steps) →
     (earlier current : Log) (steps : Steps) → HasArrived Final arrived earlier current steps w d → IsTaken taken earlier current steps x d
 takes arrived taken w x d kept state answer earlier current steps has =
     record {
@@ -67,7 +68,7 @@ takes arrived taken w x d kept state answer earlier current steps has =
     }
 
 -- the switch slot hands nothing to the nodes
-switched : (M : MissionValue) (earlier current : Log) (steps : Steps) (w : WorldValue) → InCycle M earlier current steps Switch 9 8 w → InCycle M earlier current steps Switch 9 9 w
+switched : (M : MissionValue) (earlier current : Log) (steps : Steps) (w : WorldValue) → InCycle M earlier current steps Switch (stage_after Switch) (stage_before Switch) w → InCycle M earlier current steps Switch (stage_after Switch) (stage_after Switch) w
 switched M earlier current steps w inside =
     record {
       mission = inside.mission;
@@ -120,7 +121,7 @@ module _ {may : List RuleValue → EntryValue → Type 0} (closed : Closed) (w w
       (from (HasClosed closed) (may_go_on closed w d) one)
 
   module _ (taken : ChannelSet) where
-    restored : {r : Result (List (Option ChannelSet)) Halt} → PassesPart may (IsWithinCycle Final 8 8) IsSwitched r w w1 d d1 b b1 →
+    restored : {r : Result (List (Option ChannelSet)) Halt} → PassesPart may (IsWithinCycle Final (stage_after Final) (stage_after Final)) IsSwitched r w w1 d d1 b b1 →
         PassesPart may (IsFilled closed taken) (λ sent. IsRestored (restored_of closed taken sent)) r w w1 d d1 b b1
     restored one =
         knowing (λ sent. IsRestored (restored_of closed taken sent))
@@ -148,10 +149,10 @@ module _ {may : List RuleValue → EntryValue → Type 0} (targets : ChannelSet)
 
   module _ (taken : ChannelSet) (second : PassesPart may (MayTakeContent closed.joined) IsTaken (Ok taken) w1 w2 d1 d2 b1 b2) where
     pub switching_halts : (w3 : WorldValue) (d3 : Disturbance) (b3 : BusValue) {h : Halt} (r : Result SweepResult Halt) → IsErrAnd r (λ x. x ≡ h) →
-        PassesPart may (IsWithinCycle Final 8 8) IsSwitched (Err h) w2 w3 d2 d3 b2 b3 → PassesPart may (MayRestore targets) IsRestored r w w3 d d3 b b3
+        PassesPart may (IsWithinCycle Final (stage_after Final) (stage_after Final)) IsSwitched (Err h) w2 w3 d2 d3 b2 b3 → PassesPart may (MayRestore targets) IsRestored r w w3 d d3 b b3
     switching_halts w3 d3 b3 r is third = then first (then (filled closed w1 w2 d1 d2 b1 b2 second) (halted_by r is (restored closed w2 w3 d2 d3 b2 b3 taken third)))
 
-    pub all_restored : (w3 : WorldValue) (d3 : Disturbance) (b3 : BusValue) (sent : List (Option ChannelSet)) → PassesPart may (IsWithinCycle Final 8 8) IsSwitched (Ok sent) w2 w3 d2 d3 b2 b3 →
+    pub all_restored : (w3 : WorldValue) (d3 : Disturbance) (b3 : BusValue) (sent : List (Option ChannelSet)) → PassesPart may (IsWithinCycle Final (stage_after Final) (stage_after Final)) IsSwitched (Ok sent) w2 w3 d2 d3 b2 b3 →
         PassesPart may (MayRestore targets) IsRestored (Ok (restored_of closed taken sent)) w w3 d d3 b b3
     all_restored w3 d3 b3 sent third =
         then_step IsRestored (restored_of closed taken sent) w3 (nothing_kept w3) (λ earlier current steps held. held)

@@ -4,7 +4,7 @@ use Rattle.std.specs.List.{list_any}
 use Rattle.std.proofs.lemmas.List.{append-nil, append_assoc}
 use Rattle.guards_model.specs.declared.Slot.{Slot}
 use Rattle.guards_model.specs.declared.Slot.TheVariants.{Request, Round1, Round2, Round3, Tasks, Vote, Sweep, Final, Switch, Output}
-use Rattle.guards_model.specs.Slots.{slot_index, on_bus, round_number}
+use Rattle.guards_model.specs.Slots.{slot_index, on_bus, round_number, stage_after, stage_before}
 use Rattle.guards_model.specs.Channels.{ChannelSet, has}
 use Rattle.guards_model.specs.Missions.{MissionValue}
 use Rattle.guards_model.specs.Decisions.{DecisionValue}
@@ -42,7 +42,7 @@ active_are w earlier current steps slot carried handed inside =
     active-is w.mission (earlier ++ current) (cycles_before w.mission (earlier ++ current) w.done) ∙ sym inside.switches
 
 pub carries_to : (slot : Slot) (members : ChannelSet) (w : WorldValue) (d : Disturbance) → on_bus slot ≡ true → IsToActive slot → members ≡ w.switches →
-    (earlier current : Log) (steps : Steps) → IsWithinCycle slot (slot_index slot) (slot_index slot) earlier current steps w d → MayCarry slot members earlier current steps w d
+    (earlier current : Log) (steps : Steps) → IsWithinCycle slot (stage_before slot) (stage_before slot) earlier current steps w d → MayCarry slot members earlier current steps w d
 carries_to slot members w d on among are earlier current steps within =
     record {
       on = on;
@@ -54,7 +54,7 @@ carries_to slot members w d on among are earlier current steps within =
     }
 
 pub enters_next : (slot : Slot) (old new : WorldValue) (d : Disturbance) → on_bus slot ≡ true → IsWorldKept old new → Enters slot old new →
-    (earlier current : Log) (steps : Steps) → MayEnter slot earlier current steps old d → IsWithinCycle slot (slot_index slot) (slot_index slot) earlier current steps new d
+    (earlier current : Log) (steps : Steps) → MayEnter slot earlier current steps old d → IsWithinCycle slot (stage_before slot) (stage_before slot) earlier current steps new d
 enters_next slot old new d on kept enters earlier current steps may =
     entered may.before slot (slot_index slot) (slot_index slot) earlier current steps old new d kept enters may.soon on may.stands
 
@@ -67,15 +67,15 @@ nothing_carried w d earlier current steps start =
 
 -- what opening does to the world
 abbrev pub Opens : WorldValue → WorldValue → Type 0
-Opens old new = (L : Log) (steps : Steps) → StandsForWorld old L → InCycle old.mission L [] steps Request 0 0 new
+Opens old new = (L : Log) (steps : Steps) → StandsForWorld old L → InCycle old.mission L [] steps Request (stage_before Request) (stage_before Request) new
 
 pub opens_cycle : (old new : WorldValue) (d : Disturbance) → IsWorldKept old new → Opens old new →
-    (earlier current : Log) (steps : Steps) → IsAtStart earlier current steps old d → IsWithinCycle Request 0 0 earlier current steps new d
+    (earlier current : Log) (steps : Steps) → IsAtStart earlier current steps old d → IsWithinCycle Request (stage_before Request) (stage_before Request) earlier current steps new d
 opens_cycle old new d kept opens earlier current steps start =
-    let inside : InCycle old.mission earlier current steps Request 0 0 new =
-    subst (λ (entries : Log). InCycle old.mission earlier entries steps Request 0 0 new) (sym start.nothing) (opens earlier steps start.stands) in
+    let inside : InCycle old.mission earlier current steps Request (stage_before Request) (stage_before Request) new =
+    subst (λ (entries : Log). InCycle old.mission earlier entries steps Request (stage_before Request) (stage_before Request) new) (sym start.nothing) (opens earlier steps start.stands) in
     record {
-      inside = subst (λ (M : MissionValue). InCycle M earlier current steps Request 0 0 new) (sym kept.mission) inside;
+      inside = subst (λ (M : MissionValue). InCycle M earlier current steps Request (stage_before Request) (stage_before Request) new) (sym kept.mission) inside;
       full = λ late. absurd (omega (arith, late));
       active =
           of_kept (λ M n. d.active ≡ (cycle_at M (earlier ++ current) n).active) old new kept
@@ -90,11 +90,11 @@ opens_cycle old new d kept opens earlier current steps start =
 -- what hearing the requests does to the world
 abbrev pub Hears : ArrivedValue → WorldValue → WorldValue → Type 0
 Hears arrived old new =
-    (earlier current : Log) (steps : Steps) → InCycle old.mission earlier current steps Request 1 0 old → AreArrivals old.mission (earlier ++ current) old.done Request (got_of arrived) →
-    InCycle old.mission earlier current steps Request 1 1 new
+    (earlier current : Log) (steps : Steps) → InCycle old.mission earlier current steps Request (stage_after Request) (stage_before Request) old → AreArrivals old.mission (earlier ++ current) old.done Request (got_of arrived) →
+    InCycle old.mission earlier current steps Request (stage_after Request) (stage_after Request) new
 
 pub hears_requests : (arrived : ArrivedValue) (old new : WorldValue) (d : Disturbance) → IsWorldKept old new → Hears arrived old new →
-    (earlier current : Log) (steps : Steps) → HasArrived Request arrived earlier current steps old d → IsWithinCycle Request 1 1 earlier current steps new d
+    (earlier current : Log) (steps : Steps) → HasArrived Request arrived earlier current steps old d → IsWithinCycle Request (stage_after Request) (stage_after Request) earlier current steps new d
 hears_requests arrived old new d kept hears earlier current steps came =
     still_inside Request Request 1 0 1 1 earlier current steps old new d kept came.stands (λ late. absurd (omega (arith, late)))
     (hears earlier current steps came.stands.inside came.arrivals)
@@ -104,14 +104,14 @@ hears_requests arrived old new d kept hears earlier current steps came =
 -- what receiving in a round does to the world
 abbrev pub Receives : Slot → ArrivedValue → WorldValue → WorldValue → Type 0
 Receives slot arrived old new =
-    (earlier current : Log) (steps : Steps) → InCycle old.mission earlier current steps slot (suc (slot_index slot)) (slot_index slot) old →
+    (earlier current : Log) (steps : Steps) → InCycle old.mission earlier current steps slot (stage_after slot) (stage_before slot) old →
     AreArrivals old.mission (earlier ++ current) old.done slot (got_of arrived) →
     new ≡ record old { nodes = nodes_received old.mission (earlier ++ current) old.done (round_number slot) (got_of arrived) old.nodes }
 
 hands_round : (slot : Slot) (arrived : ArrivedValue) (old new : WorldValue) → 1 ≤ round_number slot → round_number slot ≤ 2 → Receives slot arrived old new →
-    (earlier current : Log) (steps : Steps) → InCycle old.mission earlier current steps slot (suc (slot_index slot)) (slot_index slot) old →
+    (earlier current : Log) (steps : Steps) → InCycle old.mission earlier current steps slot (stage_after slot) (stage_before slot) old →
     AreArrivals old.mission (earlier ++ current) old.done slot (got_of arrived) →
-    InCycle old.mission earlier current steps slot (suc (slot_index slot)) (suc (slot_index slot)) new
+    InCycle old.mission earlier current steps slot (stage_after slot) (stage_after slot) new
 hands_round slot arrived old new some few receives earlier current steps inside are =
     let i = slot_index slot in
     let nodes : nodes_received old.mission (earlier ++ current) old.done (round_number slot) (got_of arrived) old.nodes ≡ nodes_in old.mission (earlier ++ current) old.done steps slot (suc i) =
@@ -128,14 +128,14 @@ early_slot slot some few = subst (λ (k : ℕ). k ≤ 2) (sym (number_is slot so
 
 pub receives_round : (slot : Slot) (arrived : ArrivedValue) (old new : WorldValue) (d : Disturbance) → 1 ≤ round_number slot → round_number slot ≤ 2 → IsWorldKept old new →
     Receives slot arrived old new → (earlier current : Log) (steps : Steps) → HasArrived slot arrived earlier current steps old d →
-    IsWithinCycle slot (suc (slot_index slot)) (suc (slot_index slot)) earlier current steps new d
+    IsWithinCycle slot (stage_after slot) (stage_after slot) earlier current steps new d
 receives_round slot arrived old new d some few kept receives earlier current steps came =
     let i = slot_index slot in
     still_inside slot slot (suc i) i (suc i) (suc i) earlier current steps old new d kept came.stands (λ late. absurd (omega (arith, late, early_slot slot some few)))
     (hands_round slot arrived old new some few receives earlier current steps came.stands.inside came.arrivals)
 
 pub may_receive : (slot : Slot) (arrived : ArrivedValue) (w : WorldValue) (d : Disturbance) (earlier current : Log) (steps : Steps) → HasArrived slot arrived earlier current steps w d →
-    (earlier : Log) × (current : Log) × (steps : Steps) × InCycle w.mission earlier current steps slot (suc (slot_index slot)) (slot_index slot) w
+    (earlier : Log) × (current : Log) × (steps : Steps) × InCycle w.mission earlier current steps slot (stage_after slot) (stage_before slot) w
     × AreArrivals w.mission (earlier ++ current) w.done slot (got_of arrived)
 may_receive slot arrived w d earlier current steps came = (earlier, current, steps, came.stands.inside, came.arrivals)
 
@@ -168,12 +168,12 @@ round_to_active Output some e = absurd (omega (arith, some))
 
 abbrev pub Decides : ArrivedValue → WorldValue → WorldValue → Type 0
 Decides arrived old new =
-    (earlier current : Log) (steps : Steps) → InCycle old.mission earlier current steps Round3 4 3 old → AreArrivals old.mission (earlier ++ current) old.done Round3 (got_of arrived) →
-    InCycle old.mission earlier current steps Round3 4 4 new
+    (earlier current : Log) (steps : Steps) → InCycle old.mission earlier current steps Round3 (stage_after Round3) (stage_before Round3) old → AreArrivals old.mission (earlier ++ current) old.done Round3 (got_of arrived) →
+    InCycle old.mission earlier current steps Round3 (stage_after Round3) (stage_after Round3) new
 
 abbrev pub Settles : ArrivedValue → Reconfiguration → WorldValue → Type 0
 Settles arrived settled old =
-    (earlier current : Log) (steps : Steps) → InCycle old.mission earlier current steps Round3 4 3 old → AreArrivals old.mission (earlier ++ current) old.done Round3 (got_of arrived) →
+    (earlier current : Log) (steps : Steps) → InCycle old.mission earlier current steps Round3 (stage_after Round3) (stage_before Round3) old → AreArrivals old.mission (earlier ++ current) old.done Round3 (got_of arrived) →
     AreOfCycle settled old.mission (earlier ++ current) old.done
 
 pub decides_rounds : (arrived : ArrivedValue) (settled : Reconfiguration) (old new : WorldValue) (d : Disturbance) → IsWorldKept old new → Decides arrived old new → Settles arrived settled old →
@@ -195,7 +195,7 @@ pub settled_stays : (settled : Reconfiguration) (arrived : ArrivedValue) (old ne
 settled_stays settled arrived old new d d1 mission done earlier current more steps decided came =
     let M = old.mission in
     let n = old.done in
-    let inside : InCycle M earlier (current ++ more) steps Tasks 5 4 new = subst (λ (N : MissionValue). InCycle N earlier (current ++ more) steps Tasks 5 4 new) mission came.stands.inside in
+    let inside : InCycle M earlier (current ++ more) steps Tasks (stage_after Tasks) (stage_before Tasks) new = subst (λ (N : MissionValue). InCycle N earlier (current ++ more) steps Tasks (stage_after Tasks) (stage_before Tasks) new) mission came.stands.inside in
     let late : AreFromPlace n 4 more = follows M earlier current more steps steps Round3 Tasks 4 4 5 4 old new done decided.stands.inside inside in
     let stays = rounds_later M (earlier ++ current) more n 4 late (omega arith) in
     let longer : (earlier ++ current) ++ more ≡ earlier ++ (current ++ more) = append_assoc earlier current more in

@@ -2,7 +2,7 @@
 use Rattle.std.proofs.Common.{◌≡◌, ℕ, suc, true, List, ◌++◌, Result, Ok, Err, subst}
 use Rattle.std.specs.Result.{IsErrAnd}
 use Rattle.guards_model.specs.declared.Slot.{Slot}
-use Rattle.guards_model.specs.Slots.{slot_index, on_bus}
+use Rattle.guards_model.specs.Slots.{slot_index, on_bus, stage_before}
 use Rattle.guards_model.specs.BusRules.{RuleValue}
 use Rattle.guards_model.specs.Network.{EntryValue, Log, BusValue}
 use Rattle.guards_model.specs.Rounds.{Steps}
@@ -40,7 +40,7 @@ module _ {may : List RuleValue → EntryValue → Type 0} (P : Condition) (slot 
           (without_memory may (HasArrived slot arrived) Q r w2 w3 d2 b2 none after
           (λ earlier current steps has.
           is_front w2.mission earlier current steps slot next (slot_index slot) w2 on
-          (subst (λ (carried : ℕ). InCycle w2.mission earlier current steps slot carried (slot_index slot) w2) is has.stands.inside)))
+          (subst (λ (carried : ℕ). InCycle w2.mission earlier current steps slot carried (stage_before slot) w2) is has.stands.inside)))
 
       pub handed : {x : A} → ((earlier current : Log) (steps : Steps) → HasArrived slot arrived earlier current steps w2 d2 → Q x earlier current steps w3 d2) → PassesPart may P Q (Ok x) w w3 d d2 b b2
       handed {x = x} reaches = then_step Q x w3 after reaches (after_step P w kept enters goes)

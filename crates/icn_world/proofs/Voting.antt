@@ -5,6 +5,7 @@ use Rattle.guards_model.specs.BusRules.{RuleValue}
 use Rattle.guards_model.specs.Network.{EntryValue, Log, BusValue}
 use Rattle.guards_model.specs.Rounds.{Steps}
 use Rattle.guards_model.specs.Texts.{LineValue}
+use Rattle.guards_model.specs.Slots.{stage_after, stage_before}
 use Rattle.guards_base.specs.Seen.{Seen}
 use Rattle.guards_runs.specs.Cycles.{cycle_at}
 use Rattle.guards_world.specs.Worlds.{WorldValue}
@@ -26,24 +27,24 @@ use Rattle.icn_world.proofs.Chaining.{then, halted, from, without_carry}
 use Rattle.icn_world.proofs.Entered.{still_inside, of_kept}
 use Rattle.icn_world.proofs.Fronts.{is_front}
 
-pub may_vote : (earlier current : Log) (steps : Steps) (w : WorldValue) (d : Disturbance) → IsWithinCycle Tasks 5 5 earlier current steps w d → MayEnter Vote earlier current steps w d
+pub may_vote : (earlier current : Log) (steps : Steps) (w : WorldValue) (d : Disturbance) → IsWithinCycle Tasks (stage_after Tasks) (stage_after Tasks) earlier current steps w d → MayEnter Vote earlier current steps w d
 may_vote earlier current steps w d within = record { before = Tasks; soon = refl; stands = within }
 
 module _ {may : List RuleValue → EntryValue → Type 0} (w w1 : WorldValue) (d d1 : Disturbance) (b b1 : BusValue) where
-  pub slot_halts : {h : Halt} → PassesPart may (MayEnter Vote) (HasArrived Vote) (Err h) w w1 d d1 b b1 → PassesPart may (IsWithinCycle Tasks 5 5) HasVoted (Err h) w w1 d d1 b b1
-  slot_halts goes = halted (from (IsWithinCycle Tasks 5 5) (λ earlier current steps within. may_vote earlier current steps w d within) goes)
+  pub slot_halts : {h : Halt} → PassesPart may (MayEnter Vote) (HasArrived Vote) (Err h) w w1 d d1 b b1 → PassesPart may (IsWithinCycle Tasks (stage_after Tasks) (stage_after Tasks)) HasVoted (Err h) w w1 d d1 b b1
+  slot_halts goes = halted (from (IsWithinCycle Tasks (stage_after Tasks) (stage_after Tasks)) (λ earlier current steps within. may_vote earlier current steps w d within) goes)
 
   module _ {arrived : ArrivedValue} (goes : PassesPart may (MayEnter Vote) (HasArrived Vote) (Ok arrived) w w1 d d1 b b1) where
-    passed : PassesPart may (IsWithinCycle Tasks 5 5) (HasArrived Vote) (Ok arrived) w w1 d d1 b b1
-    passed = from (IsWithinCycle Tasks 5 5) (λ earlier current steps within. may_vote earlier current steps w d within) goes
+    passed : PassesPart may (IsWithinCycle Tasks (stage_after Tasks) (stage_after Tasks)) (HasArrived Vote) (Ok arrived) w w1 d d1 b b1
+    passed = from (IsWithinCycle Tasks (stage_after Tasks) (stage_after Tasks)) (λ earlier current steps within. may_vote earlier current steps w d within) goes
 
-    pub may_take : (earlier : Log) × (current : Log) × (steps : Steps) × IsWithinCycle Tasks 5 5 earlier current steps w d →
-        (earlier : Log) × (current : Log) × (steps : Steps) × InCycle w1.mission earlier current steps Vote 6 5 w1
+    pub may_take : (earlier : Log) × (current : Log) × (steps : Steps) × IsWithinCycle Tasks (stage_after Tasks) (stage_after Tasks) earlier current steps w d →
+        (earlier : Log) × (current : Log) × (steps : Steps) × InCycle w1.mission earlier current steps Vote (stage_after Vote) (stage_before Vote) w1
     may_take held =
         (held.0, held.1 ++ goes.entries, held.2, (goes.ends held.0 held.1 held.2 (may_vote held.0 held.1 held.2 w d held.3)).stands.inside)
 
     module _ (w2 : WorldValue) (kept : IsWorldKept w1 w2) where
-      pub take_fails : {h : Halt} → h ≡ NoMemory → PassesPart may (IsWithinCycle Tasks 5 5) HasVoted (Err h) w w2 d d1 b b1
+      pub take_fails : {h : Halt} → h ≡ NoMemory → PassesPart may (IsWithinCycle Tasks (stage_after Tasks) (stage_after Tasks)) HasVoted (Err h) w w2 d d1 b b1
       take_fails {h = h} none =
           then passed
           (without_carry may (HasArrived Vote arrived) HasVoted (Err h) w1 w2 d1 d1 b1 kept.mission kept.done kept.carried
@@ -51,11 +52,11 @@ module _ {may : List RuleValue → EntryValue → Type 0} (w w1 : WorldValue) (d
           (of_kept (λ M n. IsRunFront M earlier current n) w1 w2 kept (is_front w1.mission earlier current steps Vote Sweep 5 w1 refl has.stands.inside))))
 
       pub votes_taken : {lines : Seen LineValue} →
-          ((earlier current : Log) (steps : Steps) → InCycle w1.mission earlier current steps Vote 6 5 w1 → AreArrivals w1.mission (earlier ++ current) w1.done Vote (got_of arrived) →
-          HaveWorked w1.mission (earlier ++ current) w1.done → InCycle w1.mission earlier current steps Vote 6 6 w2) →
-          ((earlier current : Log) (steps : Steps) → InCycle w1.mission earlier current steps Vote 6 5 w1 → AreArrivals w1.mission (earlier ++ current) w1.done Vote (got_of arrived) →
+          ((earlier current : Log) (steps : Steps) → InCycle w1.mission earlier current steps Vote (stage_after Vote) (stage_before Vote) w1 → AreArrivals w1.mission (earlier ++ current) w1.done Vote (got_of arrived) →
+          HaveWorked w1.mission (earlier ++ current) w1.done → InCycle w1.mission earlier current steps Vote (stage_after Vote) (stage_after Vote) w2) →
+          ((earlier current : Log) (steps : Steps) → InCycle w1.mission earlier current steps Vote (stage_after Vote) (stage_before Vote) w1 → AreArrivals w1.mission (earlier ++ current) w1.done Vote (got_of arrived) →
           HaveWorked w1.mission (earlier ++ current) w1.done → AreLinesOf w1.mission (cycle_at w1.mission (earlier ++ current) w1.done) Vote lines.items) →
-          PassesPart may (IsWithinCycle Tasks 5 5) HasVoted (Ok lines) w w2 d d1 b b1
+          PassesPart may (IsWithinCycle Tasks (stage_after Tasks) (stage_after Tasks)) HasVoted (Ok lines) w w2 d d1 b b1
       votes_taken {lines = lines} taken told =
           then passed
           (without_carry may (HasArrived Vote arrived) HasVoted (Ok lines) w1 w2 d1 d1 b1 kept.mission kept.done kept.carried

@@ -3,7 +3,7 @@ use Rattle.std.proofs.Common.{◌≡◌, ℕ, suc, ◌≤◌, ◌+◌, Bool, tru
 use Rattle.std.specs.Prelude.{nat_le}
 use Rattle.guards_model.specs.declared.Slot.{Slot}
 use Rattle.guards_model.specs.declared.Slot.TheVariants.{Request, Round1, Round2, Round3, Tasks, Vote, Sweep, Final, Switch, Output}
-use Rattle.guards_model.specs.Slots.{slot_index, round_number}
+use Rattle.guards_model.specs.Slots.{slot_index, round_number, stage_after, stage_before}
 use Rattle.guards_model.specs.Channels.{ChannelSet, tolerated_faults}
 use Rattle.guards_model.specs.Missions.{MissionValue}
 use Rattle.guards_model.specs.Network.{Log}
@@ -41,7 +41,7 @@ where_false false x y h = refl
 
 -- the world w before a round is received, by the value of which it is known
 module _ (w : WorldValue) (earlier current : Log) (steps : Steps) (slot : Slot) (some : 1 ≤ round_number slot)
-    (inside : InCycle w.mission earlier current steps slot (suc (slot_index slot)) (slot_index slot) w)
+    (inside : InCycle w.mission earlier current steps slot (stage_after slot) (stage_before slot) w)
     (round : ℕ) (number : round ≡ slot_index slot) (members : ChannelSet) (are : members ≡ w.switches) where
   abbrev M : MissionValue
   M = w.mission

@@ -4,7 +4,7 @@ use Rattle.std.specs.List.{AllZip, list_all, range_with_len, cons_option}
 use Rattle.std.proofs.lemmas.Bool.{leb-true, eqb-true}
 use Rattle.std.proofs.lemmas.List.{append_assoc, length_push}
 use Rattle.guards_model.specs.declared.Actor.{Actor}
-use Rattle.guards_model.specs.declared.Slot.TheVariants.{Tasks}
+use Rattle.guards_model.specs.declared.Slot.TheVariants.{Tasks, Vote}
 use Rattle.guards_model.specs.Channels.{Channel, ChannelSet, has}
 use Rattle.guards_model.specs.Missions.{MissionValue, IsMission, channels_of, cycle_writes}
 use Rattle.guards_model.specs.Frames.{is_channel}
@@ -15,6 +15,7 @@ use Rattle.guards_model.specs.Texts.{TraceValue}
 use Rattle.guards_model.proofs.BoolTests.{both}
 use Rattle.guards_model.proofs.AscendingLists.{set_parts}
 use Rattle.guards_model.proofs.Tables.{has-filter}
+use Rattle.guards_model.specs.Slots.{stage_after, stage_before}
 use Rattle.guards_runs.specs.Cycles.{Past, Cycle, cycles_before, cycle_at, mode_in}
 use Rattle.guards_runs.specs.Due.{due_origin}
 use Rattle.guards_runs.specs.Report as report
@@ -173,44 +174,44 @@ module _ (M : MissionValue) (L : Log) (n : ℕ) (steps : Steps) (mission : IsMis
   abbrev Full : Steps → Channel → Type 0
   Full made q = is_up (mode_in e q Tasks) ≡ true → IsFull (due_origin M past e q) (steps_of made q)
 
-  worked_at : (made : Steps) (q : Channel) → q < 7 → (new : NodeValue) → WorksOrStays M n (node_in M L n steps Tasks 4 q) new → steps_of made q ≡ steps_told new →
-      (new ≡ node_in M L n made Tasks 5 q) × Full made q
+  worked_at : (made : Steps) (q : Channel) → q < 7 → (new : NodeValue) → WorksOrStays M n (node_in M L n steps Tasks (stage_before Tasks) q) new → steps_of made q ≡ steps_told new →
+      (new ≡ node_in M L n made Tasks (stage_after Tasks) q) × Full made q
   unfolding state_in
   worked_at made q low new does told =
-      worked_one M n q (running_value_in M past e made 5 q) (due_origin M past e q) (steps_of made q)
-      (running_value_in M past e steps 4 q) (joiner_in M past e 4 q) (joiner_in M past e 5 q) (kept_of e.decision e.inputs) (mode_in e q Tasks) new refl refl
-      (ap (λ (c : ℕ). after_steps M.rules (cycle_writes M c) c (steps_of made q) (kept_of e.decision e.inputs) (running_value_in M past e steps 4 q)) (sym size)
+      worked_one M n q (running_value_in M past e made (stage_before Vote) q) (due_origin M past e q) (steps_of made q)
+      (running_value_in M past e steps (stage_before Tasks) q) (joiner_in M past e (stage_before Tasks) q) (joiner_in M past e (stage_before Vote) q) (kept_of e.decision e.inputs) (mode_in e q Tasks) new refl refl
+      (ap (λ (c : ℕ). after_steps M.rules (cycle_writes M c) c (steps_of made q) (kept_of e.decision e.inputs) (running_value_in M past e steps (stage_before Tasks) q)) (sym size)
       ∙ works M L past made q (controls_follow M L n) low)
-      (ap (λ (c : ℕ). origin_by M.rules (cycle_writes M c) c (running_value_in M past e steps 4 q).held (kept_of e.decision e.inputs)) (sym size)
+      (ap (λ (c : ℕ). origin_by M.rules (cycle_writes M c) c (running_value_in M past e steps (stage_before Tasks) q).held (kept_of e.decision e.inputs)) (sym size)
       ∙ origins M L past [] q (controls_follow M L n))
       does told
 
   low : list_all is_channel (channels_of M) ≡ true
   low = (set_parts (channels_of M) (active_is_set M [] mission)).0
 
-  module _ (left : List NodeValue) (each : AllZip (WorksOrStays M n) (nodes_in M L n steps Tasks 4) left) where
-    each_is : AllZip (Is (node_in M L n (made_by left) Tasks 5) (Full (made_by left))) (channels_of M) left
+  module _ (left : List NodeValue) (each : AllZip (WorksOrStays M n) (nodes_in M L n steps Tasks (stage_before Tasks)) left) where
+    each_is : AllZip (Is (node_in M L n (made_by left) Tasks (stage_after Tasks)) (Full (made_by left))) (channels_of M) left
     each_is =
-        each_at (WorksOrStays M n) (node_in M L n steps Tasks 4) (made_by left) (Is (node_in M L n (made_by left) Tasks 5) (Full (made_by left)))
+        each_at (WorksOrStays M n) (node_in M L n steps Tasks (stage_before Tasks)) (made_by left) (Is (node_in M L n (made_by left) Tasks (stage_after Tasks)) (Full (made_by left)))
         (worked_at (made_by left)) M.rules.channels 0 [] left refl low refl each
 
-    pub all_worked : left ≡ nodes_in M L n (made_by left) Tasks 5
-    all_worked = same_by (node_in M L n (made_by left) Tasks 5) (Full (made_by left)) (channels_of M) left each_is
+    pub all_worked : left ≡ nodes_in M L n (made_by left) Tasks (stage_after Tasks)
+    all_worked = same_by (node_in M L n (made_by left) Tasks (stage_after Tasks)) (Full (made_by left)) (channels_of M) left each_is
 
     pub all_full : AreFull M past e (made_by left)
     all_full = λ p there.
         let parts = both (is_up (mode_in e p Tasks)) (has (channels_of M) p)
         (sym (has-filter (λ q. is_up (mode_in e q Tasks)) (channels_of M) p) ∙ ap (λ (s : ChannelSet). has s p) (up_are_running M L n Tasks mission) ∙ there) in
-        full_by (node_in M L n (made_by left) Tasks 5) (Full (made_by left)) (channels_of M) left each_is p parts.1 parts.0
+        full_by (node_in M L n (made_by left) Tasks (stage_after Tasks)) (Full (made_by left)) (channels_of M) left each_is p parts.1 parts.0
 
-    traced : (q : Channel) → trace_of (node_in M L n (made_by left) Tasks 5 q) ≡ cond (is_up (mode_in e q Tasks)) (Some (trace_at (made_by left) q)) None
+    traced : (q : Channel) → trace_of (node_in M L n (made_by left) Tasks (stage_after Tasks) q) ≡ cond (is_up (mode_in e q Tasks)) (Some (trace_at (made_by left) q)) None
     unfolding state_in
-    traced q = traced_by M q (running_value_in M past e (made_by left) 5 q) (joiner_in M past e 5 q) (mode_in e q Tasks) (trace_at (made_by left) q) refl
+    traced q = traced_by M q (running_value_in M past e (made_by left) (stage_before Vote) q) (joiner_in M past e (stage_before Vote) q) (mode_in e q Tasks) (trace_at (made_by left) q) refl
 
     pub all_traced : filter_map trace_of left ≡ map (trace_at (made_by left)) (report.channels_running_in Tasks e)
     all_traced =
         ap (filter_map trace_of) all_worked
-        ∙ traced_of (node_in M L n (made_by left) Tasks 5) (λ q. is_up (mode_in e q Tasks)) (trace_at (made_by left)) traced (channels_of M)
+        ∙ traced_of (node_in M L n (made_by left) Tasks (stage_after Tasks)) (λ q. is_up (mode_in e q Tasks)) (trace_at (made_by left)) traced (channels_of M)
         ∙ ap (map (trace_at (made_by left))) (up_are_running M L n Tasks mission)
 
 -- ---- the world
@@ -222,36 +223,36 @@ has_decided r s j down d h is = absurd cc
 has_decided r s j (waiting n) d h is = absurd cc
 has_decided r s j joining d h is = absurd cc
 
-decision_of_tasks : (M : MissionValue) (L : Log) (n : ℕ) (steps : Steps) (q : Channel) → HasDecision M (node_in M L n steps Tasks 4 q)
+decision_of_tasks : (M : MissionValue) (L : Log) (n : ℕ) (steps : Steps) (q : Channel) → HasDecision M (node_in M L n steps Tasks (stage_before Tasks) q)
 unfolding state_in
 decision_of_tasks M L n steps q =
     record {
       rules = refl;
       had = λ s is. (
         _,
-        has_decided (running_value_in M (cycles_before M L n) (cycle_at M L n) steps 4 q) s (joiner_in M (cycles_before M L n) (cycle_at M L n) 4 q)
+        has_decided (running_value_in M (cycles_before M L n) (cycle_at M L n) steps (stage_before Tasks) q) s (joiner_in M (cycles_before M L n) (cycle_at M L n) (stage_before Tasks) q)
             (mode_in (cycle_at M L n) q Tasks) _ refl is,
       );
     }
 
 -- all nodes may work
-pub may_work_by : (old w : WorldValue) → w ≡ old → (earlier : Log) × (current : Log) × (steps : Steps) × InCycle old.mission earlier current steps Tasks 5 4 old → All (HasDecision w.mission) w.nodes
+pub may_work_by : (old w : WorldValue) → w ≡ old → (earlier : Log) × (current : Log) × (steps : Steps) × InCycle old.mission earlier current steps Tasks (stage_after Tasks) (stage_before Tasks) old → All (HasDecision w.mission) w.nodes
 may_work_by old w same held =
-    let inside : InCycle w.mission held.0 held.1 held.2 Tasks 5 4 w = subst (λ (x : WorldValue). InCycle x.mission held.0 held.1 held.2 Tasks 5 4 x) (sym same) held.3 in
+    let inside : InCycle w.mission held.0 held.1 held.2 Tasks (stage_after Tasks) (stage_before Tasks) w = subst (λ (x : WorldValue). InCycle x.mission held.0 held.1 held.2 Tasks (stage_after Tasks) (stage_before Tasks) x) (sym same) held.3 in
     subst (λ (nodes : List NodeValue). All (HasDecision w.mission) nodes) (sym inside.nodes)
-    (all_nodes w.mission (HasDecision w.mission) (node_in w.mission (held.0 ++ held.1) w.done held.2 Tasks 4) inside.ranges
+    (all_nodes w.mission (HasDecision w.mission) (node_in w.mission (held.0 ++ held.1) w.done held.2 Tasks (stage_before Tasks)) inside.ranges
     (λ q small. decision_of_tasks w.mission (held.0 ++ held.1) w.done held.2 q))
 
 -- the world after its nodes have worked
 pub work_by : (old w : WorldValue) (earlier current : Log) (steps : Steps) (left : List NodeValue) (traces : List TraceValue) → w ≡ old →
-    InCycle old.mission earlier current steps Tasks 5 4 old → AllZip (WorksOrStays w.mission w.done) w.nodes left → traces ≡ filter_map trace_of left →
+    InCycle old.mission earlier current steps Tasks (stage_after Tasks) (stage_before Tasks) old → AllZip (WorksOrStays w.mission w.done) w.nodes left → traces ≡ filter_map trace_of left →
     HasDoneWork (made_by left) traces earlier current (record w { nodes = left })
 work_by old w earlier current steps left traces same held each told =
     let M = w.mission in
     let all : Log = earlier ++ current in
-    let first : InCycle M earlier current steps Tasks 5 4 w = subst (λ (x : WorldValue). InCycle x.mission earlier current steps Tasks 5 4 x) (sym same) held in
-    let later : InCycle M earlier current (made_by left) Tasks 5 4 w = comes_later M earlier current steps (made_by left) w first in
-    let zipped : AllZip (WorksOrStays M w.done) (nodes_in M all w.done steps Tasks 4) left =
+    let first : InCycle M earlier current steps Tasks (stage_after Tasks) (stage_before Tasks) w = subst (λ (x : WorldValue). InCycle x.mission earlier current steps Tasks (stage_after Tasks) (stage_before Tasks) x) (sym same) held in
+    let later : InCycle M earlier current (made_by left) Tasks (stage_after Tasks) (stage_before Tasks) w = comes_later M earlier current steps (made_by left) w first in
+    let zipped : AllZip (WorksOrStays M w.done) (nodes_in M all w.done steps Tasks (stage_before Tasks)) left =
     subst (λ (nodes : List NodeValue). AllZip (WorksOrStays M w.done) nodes left) first.nodes each in
     record {
       inside = hands_by w w earlier current (made_by left) Tasks 5 4 5 left refl later (λ _. all_worked M all w.done steps first.ranges left zipped);

@@ -2,7 +2,7 @@
 use Rattle.std.specs.Prelude.{◌≡◌, ℕ, List, ◌++◌, length, take, Result, Ok, Err}
 use Rattle.std.specs.List.{AllZip}
 use Rattle.guards_model.specs.declared.Slot.{Slot}
-use Rattle.guards_model.specs.Slots.{slot_index}
+use Rattle.guards_model.specs.Slots.{slot_index, stage_before}
 use Rattle.guards_model.specs.BusRules.{RuleValue}
 use Rattle.guards_model.specs.Network.{EntryValue, Log, BusValue, TrafficValue}
 use Rattle.guards_model.specs.Rounds.{Steps}
@@ -17,7 +17,7 @@ use Rattle.icn_world.specs.Stages.{MayCarry}
 
 -- what each node received in the slots before
 abbrev pub received_in : Log → Slot → WorldValue → AllReceived
-received_in all slot w q = received_through w.mission (past_in w all) (facts_in w all) (slot_index slot) q
+received_in all slot w q = received_through w.mission (past_in w all) (facts_in w all) (stage_before slot) q
 
 -- one entry for each frame that is sent in the slot, and for the first few of them
 abbrev pub AreAllSent : Log → Log → Slot → List ℕ → WorldValue → Log → Type 0

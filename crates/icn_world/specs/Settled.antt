@@ -2,7 +2,7 @@
 use Rattle.std.specs.Prelude.{◌≡◌, ℕ, true, List, ◌++◌, map, if◌then◌else◌}
 use Rattle.guards_model.specs.declared.Slot.{Slot}
 use Rattle.guards_model.specs.declared.Slot.TheVariants.{Round3, Tasks}
-use Rattle.guards_model.specs.Slots.{slot_index, up_to}
+use Rattle.guards_model.specs.Slots.{slot_index, up_to, stage_after, stage_before}
 use Rattle.guards_model.specs.Missions.{MissionValue}
 use Rattle.guards_model.specs.Network.{Log}
 use Rattle.guards_model.specs.Records.{transfer_of_pair}
@@ -21,7 +21,7 @@ use Rattle.icn_world.specs.Stages.{IsWithinCycle}
 pub record MayEnter (slot : Slot) (earlier current : Log) (steps : Steps) (w : WorldValue) (d : Disturbance) : Type 0 where
   pub before : Slot
   pub soon : up_to before slot ≡ true
-  pub stands : IsWithinCycle before (slot_index slot) (slot_index slot) earlier current steps w d
+  pub stands : IsWithinCycle before (stage_before slot) (stage_before slot) earlier current steps w d
 
 -- its frames go to the active channels
 abbrev pub IsToActive : Slot → Type 0
@@ -40,11 +40,11 @@ pub record AreOfCycle (settled : Reconfiguration) (M : MissionValue) (L : Log) (
 
 -- the rounds are over, and the running channels have decided
 pub record IsDecided (settled : Reconfiguration) (earlier current : Log) (steps : Steps) (w : WorldValue) (d : Disturbance) : Type 0 where
-  pub stands : IsWithinCycle Round3 4 4 earlier current steps w d
+  pub stands : IsWithinCycle Round3 (stage_after Round3) (stage_after Round3) earlier current steps w d
   pub settled_are : AreOfCycle settled w.mission (earlier ++ current) w.done
 
 -- and the tasks slot is entered, whose work is next
 pub record IsSettled (settled : Reconfiguration) (earlier current : Log) (steps : Steps) (w : WorldValue) (d : Disturbance) : Type 0 where
-  pub stands : IsWithinCycle Tasks 5 4 earlier current steps w d
+  pub stands : IsWithinCycle Tasks (stage_after Tasks) (stage_before Tasks) earlier current steps w d
   pub removed : settled.removed ≡ (facts_in w (earlier ++ current)).removed
   pub transfer : transfer_of_pair settled.transfer ≡ (facts_in w (earlier ++ current)).transfer

@@ -4,7 +4,7 @@ use Rattle.std.specs.Prelude.{◌≡◌, ◌<◌, ℕ, suc, ◌+◌, true, List,
 use Rattle.std.specs.List.{list_any}
 use Rattle.guards_model.specs.declared.Slot.{Slot}
 use Rattle.guards_model.specs.declared.Slot.TheVariants.{Tasks, Switch}
-use Rattle.guards_model.specs.Slots.{slot_index, on_bus}
+use Rattle.guards_model.specs.Slots.{slot_index, on_bus, stage_after, stage_before}
 use Rattle.guards_model.specs.Channels.{Channel, has}
 use Rattle.guards_model.specs.BusRules.{RuleValue}
 use Rattle.guards_model.specs.Network.{EntryValue, Log, BusValue}
@@ -78,10 +78,10 @@ pub record IsAtStart (earlier current : Log) (steps : Steps) (w : WorldValue) (d
 -- the world is in a slot that may be carried to these receivers
 pub record MayCarry (slot : Slot) (to : List ℕ) (earlier current : Log) (steps : Steps) (w : WorldValue) (d : Disturbance) : Type 0 where
   pub on : on_bus slot ≡ true
-  pub stands : IsWithinCycle slot (slot_index slot) (slot_index slot) earlier current steps w d
+  pub stands : IsWithinCycle slot (stage_before slot) (stage_before slot) earlier current steps w d
   pub receivers_are : receivers (facts_in w (earlier ++ current)) slot ≡ to
 
 -- the slot was carried, and this arrived
 pub record HasArrived (slot : Slot) (arrived : ArrivedValue) (earlier current : Log) (steps : Steps) (w : WorldValue) (d : Disturbance) : Type 0 where
-  pub stands : IsWithinCycle slot (suc (slot_index slot)) (slot_index slot) earlier current steps w d
+  pub stands : IsWithinCycle slot (stage_after slot) (stage_before slot) earlier current steps w d
   pub arrivals : AreArrivals w.mission (earlier ++ current) w.done slot (got_of arrived)

@@ -5,6 +5,7 @@ ghost use Rattle.guards_model.specs.Channels.{by_channel};
 ghost use Rattle.guards_model.specs.Network.{Log, switchboard};
 ghost use Rattle.guards_model.specs.Rounds.{Steps};
 ghost use Rattle.guards_model.specs.Switchboard.{set_of};
+ghost use Rattle.guards_model.specs.Slots.{stage_after, stage_before};
 ghost use Rattle.guards_runs.specs.Cycles.{cycle_at};
 ghost use Rattle.guards_runs.specs.ControlFacts.{closed_of};
 ghost use Rattle.guards_world.specs.InCycle.{InCycle};
@@ -59,12 +60,12 @@ impl World {
     // Hands over the sweep slot: the joining channels take the copies, and the running ones close the cycle. Answers what
     // the first of these answers.
     fn close<A: Arrived>(&mut self, alloc: Global, arrived: &A) -> Result<Closed, AllocError>
-        requires { (earlier : Log) × (current : Log) × (steps : Steps) × InCycle self.old.mission earlier current steps Sweep 7 6 self.old }
+        requires { (earlier : Log) × (current : Log) × (steps : Steps) × InCycle self.old.mission earlier current steps Sweep (stage_after Sweep) (stage_before Sweep) self.old }
         ensures kept { IsWorldKept self.old self.new }
-        ensures state { (earlier current : Log) (steps : Steps) → InCycle self.old.mission earlier current steps Sweep 7 6 self.old →
+        ensures state { (earlier current : Log) (steps : Steps) → InCycle self.old.mission earlier current steps Sweep (stage_after Sweep) (stage_before Sweep) self.old →
             AreArrivals self.old.mission (earlier ++ current) self.old.done Sweep (A.got arrived.now) →
-            OnOk result (InCycle self.old.mission earlier current steps Sweep 7 7 self.new) }
-        ensures closed { (earlier current : Log) (steps : Steps) → InCycle self.old.mission earlier current steps Sweep 7 6 self.old →
+            OnOk result (InCycle self.old.mission earlier current steps Sweep (stage_after Sweep) (stage_after Sweep) self.new) }
+        ensures closed { (earlier current : Log) (steps : Steps) → InCycle self.old.mission earlier current steps Sweep (stage_after Sweep) (stage_before Sweep) self.old →
             IfOk result (λ closed. closed_value closed ≡ closed_of (cycle_at self.old.mission (earlier ++ current) self.old.done)) }
     {
         let members = self.switchboard.on();
@@ -124,8 +125,8 @@ impl World {
         bus: &mut B,
         disturbance: &mut Disturbance,
     ) -> Result<[Option<ChanSet>; 7], Halt>
-        requires { (earlier : Log) × (current : Log) × (steps : Steps) × IsWithinCycle Final 8 8 earlier current steps self.old disturbance.old }
-        ensures { PassesPart B.may (IsWithinCycle Final 8 8) IsSwitched result self.old self.new disturbance.old disturbance.new
+        requires { (earlier : Log) × (current : Log) × (steps : Steps) × IsWithinCycle Final (stage_after Final) (stage_after Final) earlier current steps self.old disturbance.old }
+        ensures { PassesPart B.may (IsWithinCycle Final (stage_after Final) (stage_after Final)) IsSwitched result self.old self.new disturbance.old disturbance.new
             (B.seen bus.old) (B.seen bus.new) }
     {
         self.enter(Slot::Switch);

@@ -1,7 +1,7 @@
 //! The first part of a cycle: the requests, the rounds of the exchange, and the decision.
 ghost use Rattle.std.specs.Prelude.{◌≡◌, ◌≤◌, ◌++◌, suc, true, nat_le, ◌+◌};
 ghost use Rattle.guards_model.specs.declared.Slot.TheVariants.{Request, Round3};
-ghost use Rattle.guards_model.specs.Slots.{slot_index, on_bus, round_number};
+ghost use Rattle.guards_model.specs.Slots.{slot_index, on_bus, round_number, stage_after, stage_before};
 ghost use Rattle.guards_model.specs.Channels.{tolerated_faults};
 ghost use Rattle.guards_model.specs.Network.{Log};
 ghost use Rattle.guards_model.specs.Rounds.{Steps};
@@ -46,8 +46,8 @@ impl World {
     ) -> Result<Delivered, Halt>
         requires on { on_bus slot ≡ true }
         requires among { IsToActive slot }
-        requires stands { (earlier : Log) × (current : Log) × (steps : Steps) × IsWithinCycle slot (slot_index slot) (slot_index slot) earlier current steps self.old disturbance.old }
-        ensures { PassesPart B.may (IsWithinCycle slot (slot_index slot) (slot_index slot)) (HasArrived slot) result self.old self.new disturbance.old disturbance.new
+        requires stands { (earlier : Log) × (current : Log) × (steps : Steps) × IsWithinCycle slot (stage_before slot) (stage_before slot) earlier current steps self.old disturbance.old }
+        ensures { PassesPart B.may (IsWithinCycle slot (stage_before slot) (stage_before slot)) (HasArrived slot) result self.old self.new disturbance.old disturbance.new
             (B.seen bus.old) (B.seen bus.new) }
     {
         let members = self.switchboard.on();
@@ -80,7 +80,7 @@ impl World {
         disturbance: &mut Disturbance,
     ) -> Result<(), Halt>
         requires { (earlier : Log) × (current : Log) × (steps : Steps) × IsAtStart earlier current steps self.old disturbance.old }
-        ensures { PassesPart B.may IsAtStart (λ _. IsWithinCycle Request 1 1) result self.old self.new disturbance.old disturbance.new
+        ensures { PassesPart B.may IsAtStart (λ _. IsWithinCycle Request (stage_after Request) (stage_after Request)) result self.old self.new disturbance.old disturbance.new
             (B.seen bus.old) (B.seen bus.new) }
     {
         self.open(alloc)?;
@@ -92,10 +92,10 @@ impl World {
     // The running channels receive what arrived in the slot of a round, where there is such a round.
     fn receive(&mut self, arrived: &Delivered, slot: Slot)
         requires round { 1 ≤ round_number slot }
-        requires stands { (earlier : Log) × (current : Log) × (steps : Steps) × InCycle self.old.mission earlier current steps slot (suc (slot_index slot)) (slot_index slot) self.old
+        requires stands { (earlier : Log) × (current : Log) × (steps : Steps) × InCycle self.old.mission earlier current steps slot (stage_after slot) (stage_before slot) self.old
             × AreArrivals self.old.mission (earlier ++ current) self.old.done slot (got_of arrived.now) }
         ensures kept { IsWorldKept self.old self.new }
-        ensures state { (earlier current : Log) (steps : Steps) → InCycle self.old.mission earlier current steps slot (suc (slot_index slot)) (slot_index slot) self.old →
+        ensures state { (earlier current : Log) (steps : Steps) → InCycle self.old.mission earlier current steps slot (stage_after slot) (stage_before slot) self.old →
             AreArrivals self.old.mission (earlier ++ current) self.old.done slot (got_of arrived.now) →
             self.new ≡ record self.old { nodes = nodes_received self.old.mission (earlier ++ current) self.old.done (round_number slot) (got_of arrived.now) self.old.nodes } }
     {
@@ -118,7 +118,7 @@ impl World {
         requires low { 1 ≤ round_number slot }
         requires high { round_number slot ≤ 2 }
         requires stands { (earlier : Log) × (current : Log) × (steps : Steps) × MayEnter slot earlier current steps self.old disturbance.old }
-        ensures { PassesPart B.may (MayEnter slot) (λ _. IsWithinCycle slot (suc (slot_index slot)) (suc (slot_index slot))) result self.old self.new disturbance.old disturbance.new
+        ensures { PassesPart B.may (MayEnter slot) (λ _. IsWithinCycle slot (stage_after slot) (stage_after slot)) result self.old self.new disturbance.old disturbance.new
             (B.seen bus.old) (B.seen bus.new) }
     {
         let arrived = self.pass_slot(alloc, bus, slot, disturbance)?;
@@ -128,13 +128,13 @@ impl World {
 
     // The running channels decide by what they received, in the last round too. Answers what the first of them settled.
     fn decide(&mut self, arrived: &Delivered) -> Reconfiguration
-        requires { (earlier : Log) × (current : Log) × (steps : Steps) × InCycle self.old.mission earlier current steps Round3 4 3 self.old
+        requires { (earlier : Log) × (current : Log) × (steps : Steps) × InCycle self.old.mission earlier current steps Round3 (stage_after Round3) (stage_before Round3) self.old
             × AreArrivals self.old.mission (earlier ++ current) self.old.done Round3 (got_of arrived.now) }
         ensures kept { IsWorldKept self.old self.new }
-        ensures state { (earlier current : Log) (steps : Steps) → InCycle self.old.mission earlier current steps Round3 4 3 self.old →
+        ensures state { (earlier current : Log) (steps : Steps) → InCycle self.old.mission earlier current steps Round3 (stage_after Round3) (stage_before Round3) self.old →
             AreArrivals self.old.mission (earlier ++ current) self.old.done Round3 (got_of arrived.now) →
-            InCycle self.old.mission earlier current steps Round3 4 4 self.new }
-        ensures settled { (earlier current : Log) (steps : Steps) → InCycle self.old.mission earlier current steps Round3 4 3 self.old →
+            InCycle self.old.mission earlier current steps Round3 (stage_after Round3) (stage_after Round3) self.new }
+        ensures settled { (earlier current : Log) (steps : Steps) → InCycle self.old.mission earlier current steps Round3 (stage_after Round3) (stage_before Round3) self.old →
             AreArrivals self.old.mission (earlier ++ current) self.old.done Round3 (got_of arrived.now) →
             AreOfCycle result self.old.mission (earlier ++ current) self.old.done }
     {

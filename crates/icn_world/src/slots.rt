@@ -2,7 +2,7 @@
 ghost use Rattle.std.specs.Prelude.{◌≡◌, ◌<◌, ◌++◌, true, ℕ, [], OnOk, IfOk, None};
 ghost use Rattle.guards_model.specs.declared.Slot.{Slot as SlotValue};
 ghost use Rattle.guards_model.specs.declared.Slot.TheVariants.{Request, Vote, Final};
-ghost use Rattle.guards_model.specs.Slots.{up_to, on_bus};
+ghost use Rattle.guards_model.specs.Slots.{up_to, on_bus, stage_after, stage_before};
 ghost use Rattle.guards_model.specs.Network.{Log};
 ghost use Rattle.guards_model.specs.Rounds.{Steps};
 ghost use Rattle.guards_runs.specs.Cycles.{cycle_at};
@@ -28,7 +28,7 @@ impl World {
         requires unspent { self.old.spent ≡ None }
         ensures kept { IsWorldKept self.old self.new }
         ensures state { (L : Log) (steps : Steps) → StandsForWorld self.old L →
-            OnOk result (InCycle self.old.mission L [] steps Request 0 0 self.new) }
+            OnOk result (InCycle self.old.mission L [] steps Request (stage_before Request) (stage_before Request) self.new) }
     {
         let joining = self.ledger.start_cycle(self.mission.script(), self.done);
         self.nodes.open(alloc, &self.mission, self.done, joining)?;
@@ -55,9 +55,9 @@ impl World {
     // Hands over the request slot.
     pub(crate) fn hear<A: Arrived>(&mut self, arrived: &A)
         ensures kept { IsWorldKept self.old self.new }
-        ensures state { (earlier current : Log) (steps : Steps) → InCycle self.old.mission earlier current steps Request 1 0 self.old →
+        ensures state { (earlier current : Log) (steps : Steps) → InCycle self.old.mission earlier current steps Request (stage_after Request) (stage_before Request) self.old →
             AreArrivals self.old.mission (earlier ++ current) self.old.done Request (A.got arrived.now) →
-            InCycle self.old.mission earlier current steps Request 1 1 self.new }
+            InCycle self.old.mission earlier current steps Request (stage_after Request) (stage_after Request) self.new }
     {
         self.nodes.hear(arrived);
     }
@@ -68,13 +68,13 @@ impl World {
         alloc: Global,
         arrived: &A,
     ) -> Result<Lines, AllocError>
-        requires { (earlier : Log) × (current : Log) × (steps : Steps) × InCycle self.old.mission earlier current steps Vote 6 5 self.old }
+        requires { (earlier : Log) × (current : Log) × (steps : Steps) × InCycle self.old.mission earlier current steps Vote (stage_after Vote) (stage_before Vote) self.old }
         ensures kept { IsWorldKept self.old self.new }
-        ensures state { (earlier current : Log) (steps : Steps) → InCycle self.old.mission earlier current steps Vote 6 5 self.old →
+        ensures state { (earlier current : Log) (steps : Steps) → InCycle self.old.mission earlier current steps Vote (stage_after Vote) (stage_before Vote) self.old →
             AreArrivals self.old.mission (earlier ++ current) self.old.done Vote (A.got arrived.now) →
             HaveWorked self.old.mission (earlier ++ current) self.old.done →
-            OnOk result (InCycle self.old.mission earlier current steps Vote 6 6 self.new) }
-        ensures lines { (earlier current : Log) (steps : Steps) → InCycle self.old.mission earlier current steps Vote 6 5 self.old →
+            OnOk result (InCycle self.old.mission earlier current steps Vote (stage_after Vote) (stage_after Vote) self.new) }
+        ensures lines { (earlier current : Log) (steps : Steps) → InCycle self.old.mission earlier current steps Vote (stage_after Vote) (stage_before Vote) self.old →
             AreArrivals self.old.mission (earlier ++ current) self.old.done Vote (A.got arrived.now) →
             HaveWorked self.old.mission (earlier ++ current) self.old.done →
             IfOk result (λ lines. AreLinesOf self.old.mission (cycle_at self.old.mission (earlier ++ current) self.old.done) Vote lines.items) }
@@ -91,10 +91,10 @@ impl World {
     ) -> Result<ChanSet, AllocError>
         requires { AreInRange (A.got arrived.now) }
         ensures kept { IsWorldKept self.old self.new }
-        ensures state { (earlier current : Log) (steps : Steps) → InCycle self.old.mission earlier current steps Final 8 7 self.old →
+        ensures state { (earlier current : Log) (steps : Steps) → InCycle self.old.mission earlier current steps Final (stage_after Final) (stage_before Final) self.old →
             AreArrivals self.old.mission (earlier ++ current) self.old.done Final (A.got arrived.now) →
-            OnOk result (InCycle self.old.mission earlier current steps Final 8 8 self.new) }
-        ensures taken { (earlier current : Log) (steps : Steps) → InCycle self.old.mission earlier current steps Final 8 7 self.old →
+            OnOk result (InCycle self.old.mission earlier current steps Final (stage_after Final) (stage_after Final) self.new) }
+        ensures taken { (earlier current : Log) (steps : Steps) → InCycle self.old.mission earlier current steps Final (stage_after Final) (stage_before Final) self.old →
             AreArrivals self.old.mission (earlier ++ current) self.old.done Final (A.got arrived.now) →
             IfOk result (λ taken. HaveTaken taken self.old.mission (earlier ++ current) self.old.done steps) }
     {

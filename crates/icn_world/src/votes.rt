@@ -2,6 +2,7 @@
 ghost use Rattle.guards_model.specs.Network.{Log};
 ghost use Rattle.guards_model.specs.Rounds.{Steps};
 ghost use Rattle.guards_model.specs.declared.Slot.TheVariants.{Tasks};
+ghost use Rattle.guards_model.specs.Slots.{stage_after};
 
 use crate::world::{Halt, World};
 use fault_script::Disturbance;
@@ -22,8 +23,8 @@ impl World {
         bus: &mut B,
         disturbance: &mut Disturbance,
     ) -> Result<Lines, Halt>
-        requires { (earlier : Log) × (current : Log) × (steps : Steps) × IsWithinCycle Tasks 5 5 earlier current steps self.old disturbance.old }
-        ensures { PassesPart B.may (IsWithinCycle Tasks 5 5) HasVoted result self.old self.new disturbance.old disturbance.new
+        requires { (earlier : Log) × (current : Log) × (steps : Steps) × IsWithinCycle Tasks (stage_after Tasks) (stage_after Tasks) earlier current steps self.old disturbance.old }
+        ensures { PassesPart B.may (IsWithinCycle Tasks (stage_after Tasks) (stage_after Tasks)) HasVoted result self.old self.new disturbance.old disturbance.new
             (B.seen bus.old) (B.seen bus.new) }
     {
         let arrived = self.pass_slot(alloc, bus, Slot::Vote, disturbance)?;

@@ -3,6 +3,7 @@ ghost use Rattle.std.specs.Prelude.{IfOk};
 ghost use Rattle.guards_model.specs.declared.Slot.TheVariants.{Tasks};
 ghost use Rattle.guards_model.specs.Network.{Log};
 ghost use Rattle.guards_model.specs.Rounds.{Steps};
+ghost use Rattle.guards_model.specs.Slots.{stage_after, stage_before};
 ghost use Rattle.guards_world.specs.InCycle.{InCycle};
 ghost use Rattle.icn_world.specs.Kept.{IsWorldKept};
 ghost use Rattle.icn_world.specs.Work.{HasDoneWork};
@@ -24,10 +25,10 @@ impl World {
         gate: &G,
         natives: &C,
     ) -> Result<Traces, AllocError>
-        requires { (earlier : Log) × (current : Log) × (steps : Steps) × InCycle self.old.mission earlier current steps Tasks 5 4 self.old }
+        requires { (earlier : Log) × (current : Log) × (steps : Steps) × InCycle self.old.mission earlier current steps Tasks (stage_after Tasks) (stage_before Tasks) self.old }
         ensures kept { IsWorldKept self.old self.new }
         ensures worked { IfOk result (λ traces. (made : Steps) × ((earlier current : Log) (steps : Steps) →
-            InCycle self.old.mission earlier current steps Tasks 5 4 self.old → HasDoneWork made traces.items earlier current self.new)) }
+            InCycle self.old.mission earlier current steps Tasks (stage_after Tasks) (stage_before Tasks) self.old → HasDoneWork made traces.items earlier current self.new)) }
     {
         let traces = self
             .nodes

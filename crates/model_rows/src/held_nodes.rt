@@ -1,5 +1,7 @@
 //! Worked nodes: of two worked runs, what the definitions say that nodes hold. Each function's contract says it of one run.
 ghost use Rattle.std.specs.Prelude.{◌≡◌, Some, true};
+ghost use Rattle.guards_model.specs.Slots.{stage_before};
+ghost use Rattle.guards_model.specs.declared.Slot.TheVariants.{Switch};
 ghost use Rattle.model_rows.specs.Worked.{past_of, cycle_of};
 ghost use Rattle.model_rows.specs.TwoCycles as two_cycles_row;
 ghost use Rattle.model_rows.specs.Restored as restored_row;
@@ -17,6 +19,6 @@ pub fn nodes_of_two_cycles()
 pub fn nodes_of_a_restoration()
     ensures sender { state_at restored_row.mission (past_of restored_row.run 5) 0 ≡ held.sender_before_five }
     ensures target { state_at restored_row.mission (past_of restored_row.run 5) 4 ≡ held.target_before_five }
-    ensures takes { joiner_in restored_row.mission (past_of restored_row.run 5) (cycle_of restored_row.run 5) 8 4 ≡ held.target_that_took }
+    ensures takes { joiner_in restored_row.mission (past_of restored_row.run 5) (cycle_of restored_row.run 5) (stage_before Switch) 4 ≡ held.target_that_took }
     ensures runs { state_at restored_row.mission (past_of restored_row.run 6) 4 ≡ held.target_that_runs }
 {}

@@ -5,7 +5,7 @@ use Rattle.std.specs.List.{list_any}
 use Rattle.std.proofs.lemmas.Bool.{leb-true, le-leb}
 use Rattle.guards_model.specs.declared.Slot.{Slot}
 use Rattle.guards_model.specs.declared.Slot.TheVariants.{Request, Switch, Output}
-use Rattle.guards_model.specs.Slots.{slot_index, up_to, on_bus}
+use Rattle.guards_model.specs.Slots.{slot_index, up_to, on_bus, stage_after, stage_before}
 use Rattle.guards_model.specs.Channels.{Channel, ChannelSet, has, place_or, by_channel}
 use Rattle.guards_model.specs.Contexts.{ContextValue}
 use Rattle.guards_model.specs.Faults.{FaultValue, crash, restart, damage, bus}
@@ -88,11 +88,11 @@ module _ (M : MissionValue) (L : Log) (past : Past) (steps : Steps) (q : Channel
       ∙ ap (λ m. cond (is_down m) fallen (state_of_mode r j (cond (crashed before) down (start M L past q low)))) (sym now)
       ∙ ap (λ m. cond (is_down (mode_in e q slot)) fallen (state_of_mode r j m)) (sym was)
 
-  pub falls_first : state_in M past e steps Request 0 q ≡ cond (is_down (mode_in e q Request)) fallen (state_at_opening M past e steps q)
+  pub falls_first : state_in M past e steps Request (stage_before Request) q ≡ cond (is_down (mode_in e q Request)) fallen (state_at_opening M past e steps q)
   unfolding state_in state_at_opening
   falls_first =
-      let r = running_value_in M past e steps 0 q in
-      let j = joiner_in M past e 0 q in
+      let r = running_value_in M past e steps (stage_before Request) q in
+      let j = joiner_in M past e (stage_before Request) q in
       let now = slot_mode M L past q low Request refl in
       ap (state_of_mode r j) now
       ∙ as_before r j (crashed Request) false (start M L past q low) (λ h. differ (sym h))
@@ -116,7 +116,7 @@ module _ (M : MissionValue) (L : Log) (n : ℕ) (steps : Steps) (q : Channel) (m
   on = has (active_set M (now ∷ before)) q
 
   abbrev Ends : ModeValue → Type 0
-  Ends m = between_cycles (ended_state on (state_of_mode (running_value_in M before now steps 9 q) (joiner_in M before now 9 q) m))
+  Ends m = between_cycles (ended_state on (state_of_mode (running_value_in M before now steps (stage_after Switch) q) (joiner_in M before now (stage_after Switch) q) m))
       ≡ state_of_mode (running_at M (now ∷ before) q) (joiner_at M (now ∷ before) q) (mode_at_end M.return_after on (is_whole q (now ∷ before)) m)
 
   -- a channel that is up was active, so it did not join
@@ -126,7 +126,7 @@ module _ (M : MissionValue) (L : Log) (n : ℕ) (steps : Steps) (q : Channel) (m
   not_whole : has now.joined q ≡ false → is_whole q (now ∷ before) ≡ false
   not_whole h = ap (λ b. b && joins_since q (start_of now.transfer) (now ∷ before)) h
 
-  keeps : has now.joined q ≡ false → held_in M before now 9 q ≡ held_at M (now ∷ before) q
+  keeps : has now.joined q ≡ false → held_in M before now (stage_after Switch) q ≡ held_at M (now ∷ before) q
   keeps h =
       let H : Bool → Bool → HeldValue =
       λ whole joined. record {
@@ -139,11 +139,11 @@ module _ (M : MissionValue) (L : Log) (n : ℕ) (steps : Steps) (q : Channel) (m
 
   ends_up : mode_in now q Switch ≡ up → (b : Bool) → on ≡ b → Ends up
   ends_up h true is =
-      ap (λ b. between_cycles (ended_state b (running (running_value_in M before now steps 9 q)))) is
+      ap (λ b. between_cycles (ended_state b (running (running_value_in M before now steps (stage_after Switch) q)))) is
       ∙ ap (λ held. running (record { held = held; progress = no_progress })) (keeps (not_joined h))
       ∙ ap (λ b. state_of_mode (running_at M (now ∷ before) q) (joiner_at M (now ∷ before) q) (mode_at_end M.return_after b (is_whole q (now ∷ before)) up)) (sym is)
   ends_up h false is =
-      ap (λ b. between_cycles (ended_state b (running (running_value_in M before now steps 9 q)))) is
+      ap (λ b. between_cycles (ended_state b (running (running_value_in M before now steps (stage_after Switch) q)))) is
       ∙ ap (λ b. state_of_mode (running_at M (now ∷ before) q) (joiner_at M (now ∷ before) q) (mode_at_end M.return_after b (is_whole q (now ∷ before)) up)) (sym is)
 
   -- a whole channel takes the ideal context and the control of the next cycle
@@ -205,12 +205,12 @@ module _ (M : MissionValue) (L : Log) (n : ℕ) (steps : Steps) (q : Channel) (m
   ends_by (waiting k) h = refl
   ends_by joining h = ends_joining h (is_whole q (now ∷ before)) refl
 
-  pub ends : between_cycles (ended_state on (state_in M before now steps Switch 9 q)) ≡ state_at M (now ∷ before) q
+  pub ends : between_cycles (ended_state on (state_in M before now steps Switch (stage_after Switch) q)) ≡ state_at M (now ∷ before) q
   unfolding state_in
   ends = with_mode (mode_in now q Switch) refl
     where
-      with_mode : (m : ModeValue) → mode_in now q Switch ≡ m → between_cycles (ended_state on (state_of_mode (running_value_in M before now steps 9 q) (joiner_in M before now 9 q) (mode_in now q Switch))) ≡ state_at M (now ∷ before) q
+      with_mode : (m : ModeValue) → mode_in now q Switch ≡ m → between_cycles (ended_state on (state_of_mode (running_value_in M before now steps (stage_after Switch) q) (joiner_in M before now (stage_after Switch) q) (mode_in now q Switch))) ≡ state_at M (now ∷ before) q
       with_mode m h =
-          ap (λ x. between_cycles (ended_state on (state_of_mode (running_value_in M before now steps 9 q) (joiner_in M before now 9 q) x))) h
+          ap (λ x. between_cycles (ended_state on (state_of_mode (running_value_in M before now steps (stage_after Switch) q) (joiner_in M before now (stage_after Switch) q) x))) h
           ∙ ends_by m h
           ∙ ap (λ x. state_of_mode (running_at M (now ∷ before) q) (joiner_at M (now ∷ before) q) (mode_at_end M.return_after on (is_whole q (now ∷ before)) x)) (sym h)

@@ -3,7 +3,7 @@ use Rattle.std.proofs.Common.{◌≡◌, ℕ, zero, suc, ◌≤◌, ◌<◌, ◌
 use Rattle.std.specs.Prelude.{nat_lt, option_map, slice_set}
 use Rattle.std.proofs.Math.Path.{fun_ext}
 use Rattle.std.proofs.lemmas.Bool.{eqb-true}
-use Rattle.guards_model.specs.declared.Slot.TheVariants.{Request}
+use Rattle.guards_model.specs.declared.Slot.TheVariants.{Request, Round1}
 use Rattle.guards_model.specs.Channels.{Channel, has, without, place_or, by_channel, every_channel}
 use Rattle.guards_model.specs.Missions.{MissionValue}
 use Rattle.guards_model.specs.Frames.{ItemValue}
@@ -13,6 +13,7 @@ use Rattle.guards_model.specs.Transfers.{TransferValue}
 use Rattle.guards_model.specs.Controls.{transfer_in}
 use Rattle.guards_model.specs.Rounds.{Steps}
 use Rattle.guards_model.proofs.Tables.{has-filter}
+use Rattle.guards_model.specs.Slots.{stage_before}
 use Rattle.guards_runs.specs.Cycles.{Past, Cycle, running_transfer, received_body, received_items, items_in, cycle_start_of, cycle_from, next_cycle, source_word}
 use Rattle.guards_runs.specs.ControlFacts.{sweeping_of}
 use Rattle.guards_runs.specs.Due.{is_round}
@@ -55,17 +56,17 @@ unfolding cycle_from cycle_start_of
 running_is M L past = refl
 
 pub hears : (M : MissionValue) (L : Log) (past : Past) (steps : Steps) (q : Channel) → q < 7 →
-    after_requests (λ j. have_of (received_body M (next_cycle M L past).entries (length past) Request j q)) every_channel (running_value_in M past (next_cycle M L past) steps 0 q)
-    ≡ running_value_in M past (next_cycle M L past) steps 1 q
+    after_requests (λ j. have_of (received_body M (next_cycle M L past).entries (length past) Request j q)) every_channel (running_value_in M past (next_cycle M L past) steps (stage_before Request) q)
+    ≡ running_value_in M past (next_cycle M L past) steps (stage_before Round1) q
 hears M L past steps q low =
     let e = next_cycle M L past in
     let got : Channel → Option (Option ℕ) = λ j. have_of (received_body M e.entries (length past) Request j q) in
     let H : List ℕ → Received → RunningValue =
-    λ codes received. record { held = held_in M past e 0 q; progress = record { hearing = codes; tree = Some (tree_of e.active q M.width (source_word M past q) received); decided = None; worked = None; closed = None } } in
+    λ codes received. record { held = held_in M past e (stage_before Request) q; progress = record { hearing = codes; tree = Some (tree_of e.active q M.width (source_word M past q) received); decided = None; worked = None; closed = None } } in
     let C : Option TransferValue → List ℕ = λ t. by_channel (λ j. request_code t j (got j)) in
-    all_heard got (running_value_in M past e steps 0 q)
-    ∙ ap (λ t. H (C t) (received_through M past e 0 q)) (runs_are M past (running_transfer past) ∙ sym (running_is M L past))
-    ∙ ap (λ codes. H codes (received_through M past e 0 q)) (sym (heard-is M L past q low))
+    all_heard got (running_value_in M past e steps (stage_before Request) q)
+    ∙ ap (λ t. H (C t) (received_through M past e (stage_before Request) q)) (runs_are M past (running_transfer past) ∙ sym (running_is M L past))
+    ∙ ap (λ codes. H codes (received_through M past e (stage_before Request) q)) (sym (heard-is M L past q low))
     ∙ ap (H (place_or e.request_codes q [])) (nothing_yet M past e q 0 (omega arith) ∙ sym (nothing_yet M past e q 1 (omega arith)))
 
 -- ---- a round

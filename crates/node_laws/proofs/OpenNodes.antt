@@ -14,6 +14,7 @@ use Rattle.guards_model.specs.Ledgers.{is_down, mode_of, turned_down, ledger_at_
 use Rattle.guards_model.proofs.BoolTests.{both}
 use Rattle.guards_model.proofs.AscendingLists.{set_parts}
 use Rattle.guards_model.proofs.Tables.{has-channels_where, at-by_channel}
+use Rattle.guards_model.specs.Slots.{stage_before}
 use Rattle.guards_runs.specs.Cycles.{Past, Cycle, cycles_before, cycle_at, mode_in, mode_after, active_set}
 use Rattle.guards_laws.proofs.LogGrows.{length-cycles_before}
 use Rattle.guards_laws.proofs.OnlyRise.{up_active}
@@ -121,7 +122,7 @@ module _ (M : MissionValue) (L : Log) (n : ℕ) (mission : IsMission M) where
 
   entered_one : (steps : Steps) (q : Channel) → q < 7 →
       fallen_if (turned_down (ledger_at_start M.script n (ledger_at M past)) (ledger_in M e Request)) (node_with M q (state_at_opening M past e steps q))
-      ≡ node_in M L n steps Request 0 q
+      ≡ node_in M L n steps Request (stage_before Request) q
   unfolding state_at_opening
   entered_one steps q low =
       let A = ledger_at_start M.script n (ledger_at M past) in
@@ -137,11 +138,11 @@ module _ (M : MissionValue) (L : Log) (n : ℕ) (mission : IsMission M) where
       ∙ ap (λ m. is_down (mode_in e q Request) && not (is_down m)) was in
       ap (λ b. cond b (in_state fallen node) node) there
       ∙ crashed_by M q (is_down (mode_in e q Request)) (is_down (mode_at_opening M past q)) (state_at_opening M past e steps q)
-      (is_fallen (running_value_in M past e steps 0 q) (joiner_in M past e 0 q) (mode_at_opening M past q))
+      (is_fallen (running_value_in M past e steps (stage_before Request) q) (joiner_in M past e (stage_before Request) q) (mode_at_opening M past q))
       ∙ ap (node_with M q) (sym (falls_first M L past steps q low))
 
   pub all_entered : (steps : Steps) →
-      map (fallen_if (turned_down (ledger_at_start M.script n (ledger_at M past)) (ledger_in M e Request))) (nodes_opened M L n steps) ≡ nodes_in M L n steps Request 0
+      map (fallen_if (turned_down (ledger_at_start M.script n (ledger_at M past)) (ledger_in M e Request))) (nodes_opened M L n steps) ≡ nodes_in M L n steps Request (stage_before Request)
   all_entered steps =
       each_node M (fallen_if (turned_down (ledger_at_start M.script n (ledger_at M past)) (ledger_in M e Request)))
-      (λ q. node_with M q (state_at_opening M past e steps q)) (node_in M L n steps Request 0) mission (entered_one steps)
+      (λ q. node_with M q (state_at_opening M past e steps q)) (node_in M L n steps Request (stage_before Request)) mission (entered_one steps)

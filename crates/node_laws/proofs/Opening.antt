@@ -6,7 +6,7 @@ use Rattle.std.proofs.Math.Path.{fun_ext}
 use Rattle.std.proofs.lemmas.Bool.{ltb-true, lt-ltb}
 use Rattle.guards_model.specs.Frames.{ItemValue}
 use Rattle.guards_model.specs.declared.Slot.{Slot}
-use Rattle.guards_model.specs.declared.Slot.TheVariants.{Switch}
+use Rattle.guards_model.specs.declared.Slot.TheVariants.{Request, Tasks, Switch}
 use Rattle.guards_model.specs.Channels.{Channel, ChannelSet, has, place_or}
 use Rattle.guards_model.specs.Contexts.{ContextValue, with_word}
 use Rattle.guards_model.specs.Damages.{damaged_by}
@@ -16,6 +16,7 @@ use Rattle.guards_model.specs.Network.{Log}
 use Rattle.guards_model.specs.Modes.{ModeValue, up, down, waiting, joining, is_up, is_joining, is_restart, is_crash_by, mode_at_start, mode_at_end}
 use Rattle.guards_model.specs.Rounds.{Steps}
 use Rattle.guards_model.specs.Replicas.{empty_replica}
+use Rattle.guards_model.specs.Slots.{stage_before}
 use Rattle.guards_runs.specs.Cycles.{Past, Cycle, mode_in, mode_after, context_after, source_word, received_items, items_in, active_set, is_whole, next_cycle, cycles_before}
 use Rattle.guards_runs.specs.Due.{context_or_none, is_round}
 use Rattle.guards_runs.specs.Restoration.{replica_after}
@@ -101,10 +102,10 @@ all_none : {A : Type 0} (b : Bool) (x : List A) → x ≡ [] → cond b x [] ≡
 all_none true x h = h
 all_none false x h = refl
 
-pub rounds_over : (M : MissionValue) (past : Past) (e : Cycle) (q : Channel) (done : ℕ) → 4 ≤ done → received_through M past e done q ≡ received_through M past e 4 q
+pub rounds_over : (M : MissionValue) (past : Past) (e : Cycle) (q : Channel) (done : ℕ) → 4 ≤ done → received_through M past e done q ≡ received_through M past e (stage_before Tasks) q
 rounds_over M past e q done over = fun_ext (λ r. fun_ext (λ j. at r j))
   where
-    in_round : (r : ℕ) (j : Channel) (b : Bool) → nat_lt (suc r) 4 ≡ b → received_through M past e done q (suc r) j ≡ received_through M past e 4 q (suc r) j
+    in_round : (r : ℕ) (j : Channel) (b : Bool) → nat_lt (suc r) 4 ≡ b → received_through M past e done q (suc r) j ≡ received_through M past e (stage_before Tasks) q (suc r) j
     in_round r j true h =
         let low : suc r < 4 = ltb-true (suc r) 4 h in
         let x : List ItemValue = items_in (received_items M e.entries (length past) q) (suc r) j in
@@ -115,7 +116,7 @@ rounds_over M past e q done over = fun_ext (λ r. fun_ext (λ j. at r j))
         all_none (is_received e done q (suc r) j) (items_in (received_items M e.entries (length past) q) (suc r) j) none
         ∙ sym (all_none (is_received e 4 q (suc r) j) (items_in (received_items M e.entries (length past) q) (suc r) j) none)
 
-    at : (r : ℕ) (j : Channel) → received_through M past e done q r j ≡ received_through M past e 4 q r j
+    at : (r : ℕ) (j : Channel) → received_through M past e done q r j ≡ received_through M past e (stage_before Tasks) q r j
     at zero j = refl
     at (suc r) j = in_round r j (nat_lt (suc r) 4) refl
 
@@ -168,7 +169,7 @@ module _ (M : MissionValue) (L : Log) (past : Past) (steps : Steps) (q : Channel
 
   -- the source word of a channel that was up, after the damages
   pub sources : (r : RunningValue) → mode_after M past q ≡ up → r.held ≡ held_at M past q → r.progress.hearing ≡ no_codes →
-      after_source q M.width (sensor M q c) (after_damages M.script q c r) ≡ running_value_in M past e steps 0 q
+      after_source q M.width (sensor M q c) (after_damages M.script q c r) ≡ running_value_in M past e steps (stage_before Request) q
   sources r was held hearing =
       let A : HeldValue → List ℕ → RunningValue =
       λ h hs. after_source q M.width (sensor M q c) (record { held = record h { context = damaged_by M.script q c h.context }; progress = record r.progress { hearing = hs } }) in
@@ -180,7 +181,7 @@ module _ (M : MissionValue) (L : Log) (past : Past) (steps : Steps) (q : Channel
       ∙ ap (sourced (context_or_none (place_or e.contexts_before q None)) e.active) (sym (nothing_yet M past e q 0 (omega arith)))
 
   abbrev Opens : StateValue → ModeValue → Type 0
-  Opens state m = opened_state M past q state ≡ state_of_mode (running_value_in M past e steps 0 q) (joiner_in M past e 0 q) (mode_at_start restarted m)
+  Opens state m = opened_state M past q state ≡ state_of_mode (running_value_in M past e steps (stage_before Request) q) (joiner_in M past e (stage_before Request) q) (mode_at_start restarted m)
 
   opens_up : (state : StateValue) → mode_after M past q ≡ up → between_cycles state ≡ running (running_at M past q) → Opens state up
   opens_up (running r) was h =
@@ -198,10 +199,10 @@ module _ (M : MissionValue) (L : Log) (past : Past) (steps : Steps) (q : Channel
       let empty = new_is M past q (ap is_up was) (ap is_joining was) in
       ap (λ b. joiner_if M.rules.blocks b fallen) (begins down was ∙ ap (λ t. is_joining (mode_at_start t down) && true) is)
       ∙ ap returning (sym empty)
-      ∙ ap (λ t. state_of_mode (running_value_in M past e steps 0 q) (joiner_in M past e 0 q) (mode_at_start t down)) (sym is)
+      ∙ ap (λ t. state_of_mode (running_value_in M past e steps (stage_before Request) q) (joiner_in M past e (stage_before Request) q) (mode_at_start t down)) (sym is)
   opens_down fallen was h false is =
       ap (λ b. joiner_if M.rules.blocks b fallen) (begins down was ∙ ap (λ t. is_joining (mode_at_start t down) && true) is)
-      ∙ ap (λ t. state_of_mode (running_value_in M past e steps 0 q) (joiner_in M past e 0 q) (mode_at_start t down)) (sym is)
+      ∙ ap (λ t. state_of_mode (running_value_in M past e steps (stage_before Request) q) (joiner_in M past e (stage_before Request) q) (mode_at_start t down)) (sym is)
   opens_down (running r) was h t is = absurd cc
   opens_down resting was h t is = absurd cc
   opens_down (returning j) was h t is = absurd cc

@@ -4,7 +4,7 @@ use Rattle.std.specs.Prelude.{nat_lt, if◌then◌else◌}
 use Rattle.std.proofs.lemmas.Bool.{lt-ltb, le-leb, leb-true}
 use Rattle.guards_model.specs.declared.Slot.{Slot}
 use Rattle.guards_model.specs.declared.Slot.TheVariants.{Request, Round1, Round2, Round3, Tasks, Vote, Sweep, Final, Switch, Output}
-use Rattle.guards_model.specs.Slots.{slot_index}
+use Rattle.guards_model.specs.Slots.{slot_index, stage_before}
 use Rattle.guards_model.specs.Channels.{Channel, ChannelSet, has, tolerated_faults}
 use Rattle.guards_model.specs.Missions.{MissionValue}
 use Rattle.guards_model.specs.Frames.{ItemValue, BodyValue, exchange_body, request_body}
@@ -29,7 +29,7 @@ module _ (M : MissionValue) (past : Past) (e : Cycle) (steps : Steps) (q : Chann
     (active : (slot : Slot) → mode_in e q slot ≡ up → has e.active q ≡ true) where
   abbrev OwesTo : Slot → ℕ → Type 0
   OwesTo slot to =
-      body_of M (received_through M past e (slot_index slot) q) slot to (state_in M past e steps slot (slot_index slot) q)
+      body_of M (received_through M past e (stage_before slot) q) slot to (state_in M past e steps slot (stage_before slot) q)
       ≡ body_due M past e steps slot q to
 
   -- ---- a joining channel

@@ -3,7 +3,7 @@ use Rattle.std.proofs.Common.{◌≡◌, ℕ, suc, ◌<◌, ◌≤◌, true, fal
 use Rattle.std.specs.List.{list_all}
 use Rattle.std.proofs.lemmas.Bool.{leb-true}
 use Rattle.guards_model.specs.declared.Slot.{Slot}
-use Rattle.guards_model.specs.declared.Slot.TheVariants.{Round1, Round2, Round3}
+use Rattle.guards_model.specs.declared.Slot.TheVariants.{Round1, Round2, Round3, Tasks}
 use Rattle.guards_model.specs.Channels.{Channel, ChannelSet, has, without}
 use Rattle.guards_model.specs.Missions.{MissionValue, IsMission}
 use Rattle.guards_model.specs.Frames.{ItemValue, is_channel, is_set}
@@ -14,6 +14,7 @@ use Rattle.guards_model.proofs.BoolTests.{both}
 use Rattle.guards_model.proofs.AscendingLists.{set_parts}
 use Rattle.guards_model.proofs.ListTests.{all-filter}
 use Rattle.guards_model.proofs.Tables.{at-by_channel}
+use Rattle.guards_model.specs.Slots.{stage_after, stage_before}
 use Rattle.guards_runs.specs.Cycles.{Past, Cycle, received_body, received_items, items_in, source_word, cycles_before, cycle_at, mode_in}
 use Rattle.guards_runs.specs.Due.{is_round}
 use Rattle.guards_runs.specs.Promises.{DecidesAlike}
@@ -82,95 +83,95 @@ module _ (M : MissionValue) (L : Log) (n : ℕ) (steps : Steps) (mission : IsMis
       }
 
   first_of : (got : Bodies) → AreArrivals M L n Round1 got → is_round e 1 ≡ true → (q : Channel) → q < 7 →
-      with_exchanges 1 e.active got (received_through M past e 1) (node_in M L n steps Round1 1 q) ≡ node_in M L n steps Round1 2 q
+      with_exchanges 1 e.active got (received_through M past e (stage_before Round1)) (node_in M L n steps Round1 (stage_before Round1) q) ≡ node_in M L n steps Round1 (stage_after Round1) q
   unfolding state_in
   first_of got are there q low =
       ap (node_with M q)
-      (running_step (after_exchanges 1 (λ j. items_of (got j q)) (received_through M past e 1 q) (without e.active (q ∷ [])))
-      (running_value_in M past e steps 1 q) (running_value_in M past e steps 2 q) (joiner_in M past e 1 q) (joiner_in M past e 2 q) (mode_in e q Round1)
+      (running_step (after_exchanges 1 (λ j. items_of (got j q)) (received_through M past e (stage_before Round1) q) (without e.active (q ∷ [])))
+      (running_value_in M past e steps (stage_before Round1) q) (running_value_in M past e steps (stage_before Round2) q) (joiner_in M past e (stage_before Round1) q) (joiner_in M past e (stage_before Round2) q) (mode_in e q Round1)
       (ap (with_tree_of 1 q) (exchanged 1 Round1 got are q
       (λ j below. at-by_channel (λ p. items_of (received_body M e.entries (length past) Round1 p q)) j [] below) (omega arith) there)) refl)
 
   pub all_first : (got : Bodies) → AreArrivals M L n Round1 got → is_round e 1 ≡ true →
-      map (with_exchanges 1 e.active got (received_through M past e 1)) (nodes_in M L n steps Round1 1) ≡ nodes_in M L n steps Round1 2
+      map (with_exchanges 1 e.active got (received_through M past e (stage_before Round1))) (nodes_in M L n steps Round1 (stage_before Round1)) ≡ nodes_in M L n steps Round1 (stage_after Round1)
   all_first got are there =
-      each_node M (with_exchanges 1 e.active got (received_through M past e 1)) (node_in M L n steps Round1 1) (node_in M L n steps Round1 2) mission
+      each_node M (with_exchanges 1 e.active got (received_through M past e (stage_before Round1))) (node_in M L n steps Round1 (stage_before Round1)) (node_in M L n steps Round1 (stage_after Round1)) mission
       (first_of got are there)
 
   second_of : (got : Bodies) → AreArrivals M L n Round2 got → is_round e 2 ≡ true → (q : Channel) → q < 7 →
-      with_exchanges 2 e.active got (received_through M past e 2) (node_in M L n steps Round2 2 q) ≡ node_in M L n steps Round2 3 q
+      with_exchanges 2 e.active got (received_through M past e (stage_before Round2)) (node_in M L n steps Round2 (stage_before Round2) q) ≡ node_in M L n steps Round2 (stage_after Round2) q
   unfolding state_in
   second_of got are there q low =
       ap (node_with M q)
-      (running_step (after_exchanges 2 (λ j. items_of (got j q)) (received_through M past e 2 q) (without e.active (q ∷ [])))
-      (running_value_in M past e steps 2 q) (running_value_in M past e steps 3 q) (joiner_in M past e 2 q) (joiner_in M past e 3 q) (mode_in e q Round2)
+      (running_step (after_exchanges 2 (λ j. items_of (got j q)) (received_through M past e (stage_before Round2) q) (without e.active (q ∷ [])))
+      (running_value_in M past e steps (stage_before Round2) q) (running_value_in M past e steps (stage_before Round3) q) (joiner_in M past e (stage_before Round2) q) (joiner_in M past e (stage_before Round3) q) (mode_in e q Round2)
       (ap (with_tree_of 2 q) (exchanged 2 Round2 got are q
       (λ j below. at-by_channel (λ p. items_of (received_body M e.entries (length past) Round2 p q)) j [] below) (omega arith) there)) refl)
 
   pub all_second : (got : Bodies) → AreArrivals M L n Round2 got → is_round e 2 ≡ true →
-      map (with_exchanges 2 e.active got (received_through M past e 2)) (nodes_in M L n steps Round2 2) ≡ nodes_in M L n steps Round2 3
+      map (with_exchanges 2 e.active got (received_through M past e (stage_before Round2))) (nodes_in M L n steps Round2 (stage_before Round2)) ≡ nodes_in M L n steps Round2 (stage_after Round2)
   all_second got are there =
-      each_node M (with_exchanges 2 e.active got (received_through M past e 2)) (node_in M L n steps Round2 2) (node_in M L n steps Round2 3) mission
+      each_node M (with_exchanges 2 e.active got (received_through M past e (stage_before Round2))) (node_in M L n steps Round2 (stage_before Round2)) (node_in M L n steps Round2 (stage_after Round2)) mission
       (second_of got are there)
 
-  no_second_of : is_round e 2 ≡ false → (q : Channel) → q < 7 → node_in M L n steps Round2 2 q ≡ node_in M L n steps Round2 3 q
+  no_second_of : is_round e 2 ≡ false → (q : Channel) → q < 7 → node_in M L n steps Round2 (stage_before Round2) q ≡ node_in M L n steps Round2 (stage_after Round2) q
   unfolding state_in
   no_second_of none q low =
       ap (node_with M q)
-      (same_parts (running_value_in M past e steps 2 q) (running_value_in M past e steps 3 q) (joiner_in M past e 2 q) (joiner_in M past e 3 q) (mode_in e q Round2)
+      (same_parts (running_value_in M past e steps (stage_before Round2) q) (running_value_in M past e steps (stage_before Round3) q) (joiner_in M past e (stage_before Round2) q) (joiner_in M past e (stage_before Round3) q) (mode_in e q Round2)
       (ap (with_tree_of 2 q) (none_received M past e q 2 none)) refl)
 
-  pub no_second : is_round e 2 ≡ false → nodes_in M L n steps Round2 2 ≡ nodes_in M L n steps Round2 3
-  no_second none = same_nodes M (node_in M L n steps Round2 2) (node_in M L n steps Round2 3) mission (no_second_of none)
+  pub no_second : is_round e 2 ≡ false → nodes_in M L n steps Round2 (stage_before Round2) ≡ nodes_in M L n steps Round2 (stage_after Round2)
+  no_second none = same_nodes M (node_in M L n steps Round2 (stage_before Round2)) (node_in M L n steps Round2 (stage_after Round2)) mission (no_second_of none)
 
   -- ---- the decision
 
   decided : (q : Channel) → DecidesAlike M past e q →
-      after_decision M.rules n (received_through M past e 4 q) (with_tree_of 3 q (received_through M past e 4 q)) ≡ running_value_in M past e steps 4 q
+      after_decision M.rules n (received_through M past e (stage_before Tasks) q) (with_tree_of 3 q (received_through M past e (stage_before Tasks) q)) ≡ running_value_in M past e steps (stage_before Tasks) q
   decided q alike =
-      ap (λ (c : ℕ). after_decision M.rules c (received_through M past e 4 q) (with_tree_of 3 q (received_through M past e 4 q))) (sym size)
+      ap (λ (c : ℕ). after_decision M.rules c (received_through M past e (stage_before Tasks) q) (with_tree_of 3 q (received_through M past e (stage_before Tasks) q))) (sym size)
       ∙ decides M L past steps q (controls_follow M L n) alike
 
   third_of : (got : Bodies) → AreArrivals M L n Round3 got → is_round e 3 ≡ true → (q : Channel) →
       (mode_in e q Round3 ≡ up → DecidesAlike M past e q) →
-      with_decisions M n (received_through M past e 4) (with_exchanges 3 e.active got (received_through M past e 3) (node_in M L n steps Round3 3 q))
-      ≡ node_in M L n steps Round3 4 q
+      with_decisions M n (received_through M past e (stage_before Tasks)) (with_exchanges 3 e.active got (received_through M past e (stage_before Round3)) (node_in M L n steps Round3 (stage_before Round3) q))
+      ≡ node_in M L n steps Round3 (stage_after Round3) q
   unfolding state_in
   third_of got are there q alike =
-      let receive : RunningValue → RunningValue = after_exchanges 3 (λ j. items_of (got j q)) (received_through M past e 3 q) (without e.active (q ∷ [])) in
-      let decide : RunningValue → RunningValue = after_decision M.rules n (received_through M past e 4 q) in
+      let receive : RunningValue → RunningValue = after_exchanges 3 (λ j. items_of (got j q)) (received_through M past e (stage_before Round3) q) (without e.active (q ∷ [])) in
+      let decide : RunningValue → RunningValue = after_decision M.rules n (received_through M past e (stage_before Tasks) q) in
       ap (λ (state : StateValue). node_with M q (on_running decide state))
-      (running_step receive (running_value_in M past e steps 3 q) (with_tree_of 3 q (received_through M past e 4 q)) (joiner_in M past e 3 q) (joiner_in M past e 4 q) (mode_in e q Round3)
+      (running_step receive (running_value_in M past e steps (stage_before Round3) q) (with_tree_of 3 q (received_through M past e (stage_before Tasks) q)) (joiner_in M past e (stage_before Round3) q) (joiner_in M past e (stage_before Tasks) q) (mode_in e q Round3)
       (ap (with_tree_of 3 q) (exchanged 3 Round3 got are q
       (λ j below. at-by_channel (λ p. items_of (received_body M e.entries (length past) Round3 p q)) j [] below) (omega arith) there)) refl)
       ∙ ap (node_with M q)
-      (running_step_up decide (with_tree_of 3 q (received_through M past e 4 q)) (running_value_in M past e steps 4 q) (joiner_in M past e 4 q) (joiner_in M past e 4 q) (mode_in e q Round3)
+      (running_step_up decide (with_tree_of 3 q (received_through M past e (stage_before Tasks) q)) (running_value_in M past e steps (stage_before Tasks) q) (joiner_in M past e (stage_before Tasks) q) (joiner_in M past e (stage_before Tasks) q) (mode_in e q Round3)
       (λ is. decided q (alike is)) refl)
 
   pub all_decided : (got : Bodies) → AreArrivals M L n Round3 got → is_round e 3 ≡ true →
       ((q : Channel) → q < 7 → mode_in e q Round3 ≡ up → DecidesAlike M past e q) →
-      map (with_decisions M n (received_through M past e 4)) (map (with_exchanges 3 e.active got (received_through M past e 3)) (nodes_in M L n steps Round3 3))
-      ≡ nodes_in M L n steps Round3 4
+      map (with_decisions M n (received_through M past e (stage_before Tasks))) (map (with_exchanges 3 e.active got (received_through M past e (stage_before Round3))) (nodes_in M L n steps Round3 (stage_before Round3)))
+      ≡ nodes_in M L n steps Round3 (stage_after Round3)
   all_decided got are there alike =
-      let received : Channel → NodeValue = λ q. with_exchanges 3 e.active got (received_through M past e 3) (node_in M L n steps Round3 3 q) in
-      ap (map (with_decisions M n (received_through M past e 4)))
-      (each_node M (with_exchanges 3 e.active got (received_through M past e 3)) (node_in M L n steps Round3 3) received mission (λ q low. refl))
-      ∙ each_node M (with_decisions M n (received_through M past e 4)) received (node_in M L n steps Round3 4) mission (λ q low. third_of got are there q (alike q low))
+      let received : Channel → NodeValue = λ q. with_exchanges 3 e.active got (received_through M past e (stage_before Round3)) (node_in M L n steps Round3 (stage_before Round3) q) in
+      ap (map (with_decisions M n (received_through M past e (stage_before Tasks))))
+      (each_node M (with_exchanges 3 e.active got (received_through M past e (stage_before Round3))) (node_in M L n steps Round3 (stage_before Round3)) received mission (λ q low. refl))
+      ∙ each_node M (with_decisions M n (received_through M past e (stage_before Tasks))) received (node_in M L n steps Round3 (stage_after Round3)) mission (λ q low. third_of got are there q (alike q low))
 
   no_third_of : is_round e 3 ≡ false → (q : Channel) → (mode_in e q Round3 ≡ up → DecidesAlike M past e q) →
-      with_decisions M n (received_through M past e 4) (node_in M L n steps Round3 3 q) ≡ node_in M L n steps Round3 4 q
+      with_decisions M n (received_through M past e (stage_before Tasks)) (node_in M L n steps Round3 (stage_before Round3) q) ≡ node_in M L n steps Round3 (stage_after Round3) q
   unfolding state_in
   no_third_of none q alike =
-      let decide : RunningValue → RunningValue = after_decision M.rules n (received_through M past e 4 q) in
+      let decide : RunningValue → RunningValue = after_decision M.rules n (received_through M past e (stage_before Tasks) q) in
       ap (λ (state : StateValue). node_with M q (on_running decide state))
-      (same_parts (running_value_in M past e steps 3 q) (with_tree_of 3 q (received_through M past e 4 q)) (joiner_in M past e 3 q) (joiner_in M past e 4 q) (mode_in e q Round3)
+      (same_parts (running_value_in M past e steps (stage_before Round3) q) (with_tree_of 3 q (received_through M past e (stage_before Tasks) q)) (joiner_in M past e (stage_before Round3) q) (joiner_in M past e (stage_before Tasks) q) (mode_in e q Round3)
       (ap (with_tree_of 3 q) (none_received M past e q 3 none)) refl)
       ∙ ap (node_with M q)
-      (running_step_up decide (with_tree_of 3 q (received_through M past e 4 q)) (running_value_in M past e steps 4 q) (joiner_in M past e 4 q) (joiner_in M past e 4 q) (mode_in e q Round3)
+      (running_step_up decide (with_tree_of 3 q (received_through M past e (stage_before Tasks) q)) (running_value_in M past e steps (stage_before Tasks) q) (joiner_in M past e (stage_before Tasks) q) (joiner_in M past e (stage_before Tasks) q) (mode_in e q Round3)
       (λ is. decided q (alike is)) refl)
 
   pub all_decided_early : is_round e 3 ≡ false → ((q : Channel) → q < 7 → mode_in e q Round3 ≡ up → DecidesAlike M past e q) →
-      map (with_decisions M n (received_through M past e 4)) (nodes_in M L n steps Round3 3) ≡ nodes_in M L n steps Round3 4
+      map (with_decisions M n (received_through M past e (stage_before Tasks))) (nodes_in M L n steps Round3 (stage_before Round3)) ≡ nodes_in M L n steps Round3 (stage_after Round3)
   all_decided_early none alike =
-      each_node M (with_decisions M n (received_through M past e 4)) (node_in M L n steps Round3 3) (node_in M L n steps Round3 4) mission
+      each_node M (with_decisions M n (received_through M past e (stage_before Tasks))) (node_in M L n steps Round3 (stage_before Round3)) (node_in M L n steps Round3 (stage_after Round3)) mission
       (λ q low. no_third_of none q (alike q low))

@@ -2,8 +2,8 @@
 use Rattle.std.proofs.Common.{◌≡◌, ℕ, ◌<◌, true, cond, not, ◌&&◌, List, Option, map, filter_map, length, refl, sym, ap, ◌∙◌}
 use Rattle.std.proofs.Math.Path.{fun_ext}
 use Rattle.guards_model.specs.declared.Slot.{Slot}
-use Rattle.guards_model.specs.declared.Slot.TheVariants.{Request, Sweep, Final, Switch}
-use Rattle.guards_model.specs.Slots.{up_to, on_bus}
+use Rattle.guards_model.specs.declared.Slot.TheVariants.{Request, Round1, Sweep, Final, Switch}
+use Rattle.guards_model.specs.Slots.{up_to, on_bus, stage_after, stage_before}
 use Rattle.guards_model.specs.Channels.{Channel, ChannelSet, has, every_channel}
 use Rattle.guards_model.specs.Missions.{MissionValue, IsMission, channels_of}
 use Rattle.guards_model.specs.Modes.{down}
@@ -46,81 +46,81 @@ module _ (M : MissionValue) (L : Log) (n : ℕ) (steps : Steps) where
   -- ---- requests
 
   heard : (got : Bodies) → AreArrivals M L n Request got → (q : Channel) → q < 7 →
-      with_requests got (node_in M L n steps Request 0 q) ≡ node_in M L n steps Request 1 q
+      with_requests got (node_in M L n steps Request (stage_before Request) q) ≡ node_in M L n steps Request (stage_after Request) q
   unfolding state_in
   heard got are q low =
-      let same = ap (λ (from : Channel → Option (Option ℕ)). after_requests from every_channel (running_value_in M past e steps 0 q))
+      let same = ap (λ (from : Channel → Option (Option ℕ)). after_requests from every_channel (running_value_in M past e steps (stage_before Request) q))
       (fun_ext (λ j. ap have_of (arrived Request got are j q))) in
       ap (node_with M q)
-      (running_step (after_requests (λ j. have_of (got j q)) every_channel) (running_value_in M past e steps 0 q) (running_value_in M past e steps 1 q)
-      (joiner_in M past e 0 q) (joiner_in M past e 1 q) (mode_in e q Request) (same ∙ hears M L past steps q low) refl)
+      (running_step (after_requests (λ j. have_of (got j q)) every_channel) (running_value_in M past e steps (stage_before Request) q) (running_value_in M past e steps (stage_before Round1) q)
+      (joiner_in M past e (stage_before Request) q) (joiner_in M past e (stage_before Round1) q) (mode_in e q Request) (same ∙ hears M L past steps q low) refl)
 
   pub all_heard : (got : Bodies) → IsMission M → AreArrivals M L n Request got →
-      map (with_requests got) (nodes_in M L n steps Request 0) ≡ nodes_in M L n steps Request 1
-  all_heard got mission are = each_node M (with_requests got) (node_in M L n steps Request 0) (node_in M L n steps Request 1) mission (heard got are)
+      map (with_requests got) (nodes_in M L n steps Request (stage_before Request)) ≡ nodes_in M L n steps Request (stage_after Request)
+  all_heard got mission are = each_node M (with_requests got) (node_in M L n steps Request (stage_before Request)) (node_in M L n steps Request (stage_after Request)) mission (heard got are)
 
   -- ---- sweep frames
 
   swept : (got : Bodies) → AreArrivals M L n Sweep got → (q : Channel) → q < 7 →
-      closed_in M n (with_sweeps n e.active got (node_in M L n steps Sweep 6 q)) ≡ node_in M L n steps Sweep 7 q
+      closed_in M n (with_sweeps n e.active got (node_in M L n steps Sweep (stage_before Sweep) q)) ≡ node_in M L n steps Sweep (stage_after Sweep) q
   unfolding state_in
   swept got are q low =
       let frames = ap (λ (f : Channel → Option SweepValue). filter_map f e.active) (fun_ext (λ j. ap sweep_content (arrived Sweep got are j q))) in
-      let fill : after_sweep_frames M.rules.blocks n (filter_map (λ j. sweep_content (got j q)) e.active) (joiner_in M past e 6 q) ≡ joiner_in M past e 7 q =
-      ap (λ (c : ℕ). after_sweep_frames M.rules.blocks c (filter_map (λ j. sweep_content (got j q)) e.active) (joiner_in M past e 6 q)) (sym size)
-      ∙ ap (λ (fs : List SweepValue). after_sweep_frames M.rules.blocks (length past) fs (joiner_in M past e 6 q)) frames in
+      let fill : after_sweep_frames M.rules.blocks n (filter_map (λ j. sweep_content (got j q)) e.active) (joiner_in M past e (stage_before Sweep) q) ≡ joiner_in M past e (stage_before Final) q =
+      ap (λ (c : ℕ). after_sweep_frames M.rules.blocks c (filter_map (λ j. sweep_content (got j q)) e.active) (joiner_in M past e (stage_before Sweep) q)) (sym size)
+      ∙ ap (λ (fs : List SweepValue). after_sweep_frames M.rules.blocks (length past) fs (joiner_in M past e (stage_before Sweep) q)) frames in
       let filled = returning_step (after_sweep_frames M.rules.blocks n (filter_map (λ j. sweep_content (got j q)) e.active))
-      (running_value_in M past e steps 6 q) (running_value_in M past e steps 6 q) (joiner_in M past e 6 q) (joiner_in M past e 7 q) (mode_in e q Sweep) refl fill in
+      (running_value_in M past e steps (stage_before Sweep) q) (running_value_in M past e steps (stage_before Sweep) q) (joiner_in M past e (stage_before Sweep) q) (joiner_in M past e (stage_before Final) q) (mode_in e q Sweep) refl fill in
       let close : RunningValue → RunningValue = λ r. closed_from M n r.progress.decided r in
-      let shut : close (running_value_in M past e steps 6 q) ≡ running_value_in M past e steps 7 q =
-      ap (λ (c : ℕ). closed_from M c (running_value_in M past e steps 6 q).progress.decided (running_value_in M past e steps 6 q)) (sym size)
+      let shut : close (running_value_in M past e steps (stage_before Sweep) q) ≡ running_value_in M past e steps (stage_before Final) q =
+      ap (λ (c : ℕ). closed_from M c (running_value_in M past e steps (stage_before Sweep) q).progress.decided (running_value_in M past e steps (stage_before Sweep) q)) (sym size)
       ∙ closes M L past steps q (controls_follow M L n) in
       ap (λ (state : StateValue). node_with M q (on_running close state)) filled
-      ∙ ap (node_with M q) (running_step close (running_value_in M past e steps 6 q) (running_value_in M past e steps 7 q) (joiner_in M past e 7 q) (joiner_in M past e 7 q) (mode_in e q Sweep) shut refl)
+      ∙ ap (node_with M q) (running_step close (running_value_in M past e steps (stage_before Sweep) q) (running_value_in M past e steps (stage_before Final) q) (joiner_in M past e (stage_before Final) q) (joiner_in M past e (stage_before Final) q) (mode_in e q Sweep) shut refl)
 
   -- ---- final frames
 
   filled_up : (got : Bodies) → AreArrivals M L n Final got → (q : Channel) → q < 7 →
-      with_finals e.active got (node_in M L n steps Final 7 q) ≡ node_in M L n steps Final 8 q
+      with_finals e.active got (node_in M L n steps Final (stage_before Final) q) ≡ node_in M L n steps Final (stage_after Final) q
   unfolding state_in
   filled_up got are q low =
       let frames = ap (λ (f : Channel → Option FinalValue). filter_map f e.active) (fun_ext (λ j. ap final_content (arrived Final got are j q))) in
       ap (node_with M q)
       (returning_step (after_final_frames (filter_map (λ j. final_content (got j q)) e.active))
-      (running_value_in M past e steps 7 q) (running_value_in M past e steps 8 q) (joiner_in M past e 7 q) (joiner_in M past e 8 q) (mode_in e q Final)
+      (running_value_in M past e steps (stage_before Final) q) (running_value_in M past e steps (stage_before Switch) q) (joiner_in M past e (stage_before Final) q) (joiner_in M past e (stage_before Switch) q) (mode_in e q Final)
       (stands_at_final M L past steps q (controls_follow M L n))
-      (ap (λ (fs : List FinalValue). after_final_frames fs (joiner_in M past e 7 q)) frames))
+      (ap (λ (fs : List FinalValue). after_final_frames fs (joiner_in M past e (stage_before Final) q)) frames))
 
   pub all_filled : (got : Bodies) → IsMission M → AreArrivals M L n Final got →
-      map (with_finals e.active got) (nodes_in M L n steps Final 7) ≡ nodes_in M L n steps Final 8
-  all_filled got mission are = each_node M (with_finals e.active got) (node_in M L n steps Final 7) (node_in M L n steps Final 8) mission (filled_up got are)
+      map (with_finals e.active got) (nodes_in M L n steps Final (stage_before Final)) ≡ nodes_in M L n steps Final (stage_after Final)
+  all_filled got mission are = each_node M (with_finals e.active got) (node_in M L n steps Final (stage_before Final)) (node_in M L n steps Final (stage_after Final)) mission (filled_up got are)
 
   -- ---- the switch slot
 
-  switched : (q : Channel) → q < 7 → node_in M L n steps Switch 8 q ≡ node_in M L n steps Switch 9 q
+  switched : (q : Channel) → q < 7 → node_in M L n steps Switch (stage_before Switch) q ≡ node_in M L n steps Switch (stage_after Switch) q
   unfolding state_in
   switched q low =
       ap (node_with M q)
-      (same_parts (running_value_in M past e steps 8 q) (running_value_in M past e steps 9 q) (joiner_in M past e 8 q) (joiner_in M past e 9 q) (mode_in e q Switch)
+      (same_parts (running_value_in M past e steps (stage_before Switch) q) (running_value_in M past e steps (stage_after Switch) q) (joiner_in M past e (stage_before Switch) q) (joiner_in M past e (stage_after Switch) q) (mode_in e q Switch)
       (stands_at_switch M L past steps q (controls_follow M L n)) refl)
 
-  pub all_switched : IsMission M → nodes_in M L n steps Switch 8 ≡ nodes_in M L n steps Switch 9
-  all_switched mission = same_nodes M (node_in M L n steps Switch 8) (node_in M L n steps Switch 9) mission switched
+  pub all_switched : IsMission M → nodes_in M L n steps Switch (stage_before Switch) ≡ nodes_in M L n steps Switch (stage_after Switch)
+  all_switched mission = same_nodes M (node_in M L n steps Switch (stage_before Switch)) (node_in M L n steps Switch (stage_after Switch)) mission switched
 
   pub all_swept : (got : Bodies) → IsMission M → AreArrivals M L n Sweep got →
-      map (closed_in M n) (map (with_sweeps n e.active got) (nodes_in M L n steps Sweep 6)) ≡ nodes_in M L n steps Sweep 7
+      map (closed_in M n) (map (with_sweeps n e.active got) (nodes_in M L n steps Sweep (stage_before Sweep))) ≡ nodes_in M L n steps Sweep (stage_after Sweep)
   all_swept got mission are =
-      let filled : Channel → NodeValue = λ q. with_sweeps n e.active got (node_in M L n steps Sweep 6 q) in
-      ap (map (closed_in M n)) (each_node M (with_sweeps n e.active got) (node_in M L n steps Sweep 6) filled mission (λ q low. refl))
-      ∙ each_node M (closed_in M n) filled (node_in M L n steps Sweep 7) mission (swept got are)
+      let filled : Channel → NodeValue = λ q. with_sweeps n e.active got (node_in M L n steps Sweep (stage_before Sweep) q) in
+      ap (map (closed_in M n)) (each_node M (with_sweeps n e.active got) (node_in M L n steps Sweep (stage_before Sweep)) filled mission (λ q low. refl))
+      ∙ each_node M (closed_in M n) filled (node_in M L n steps Sweep (stage_after Sweep)) mission (swept got are)
 
   -- ---- the cycle's end
 
   pub all_ended : (on : ChannelSet) → IsMission M →
-      map (ended_on on) (nodes_in M L n steps Switch 9)
-      ≡ map (λ q. node_with M q (ended_state (has on q) (state_in M past e steps Switch 9 q))) (channels_of M)
+      map (ended_on on) (nodes_in M L n steps Switch (stage_after Switch))
+      ≡ map (λ q. node_with M q (ended_state (has on q) (state_in M past e steps Switch (stage_after Switch) q))) (channels_of M)
   all_ended on mission =
-      each_node M (ended_on on) (node_in M L n steps Switch 9) (λ q. node_with M q (ended_state (has on q) (state_in M past e steps Switch 9 q))) mission (λ q low. refl)
+      each_node M (ended_on on) (node_in M L n steps Switch (stage_after Switch)) (λ q. node_with M q (ended_state (has on q) (state_in M past e steps Switch (stage_after Switch) q))) mission (λ q low. refl)
 
   -- ---- crashes
 

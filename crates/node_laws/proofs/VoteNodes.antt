@@ -1,11 +1,12 @@
 -- The nodes of the vote slot.
 use Rattle.std.proofs.Common.{◌≡◌, ℕ, ◌<◌, None, map, length, refl, sym, ap, ◌∙◌}
-use Rattle.guards_model.specs.declared.Slot.TheVariants.{Vote}
+use Rattle.guards_model.specs.declared.Slot.TheVariants.{Vote, Sweep}
 use Rattle.guards_model.specs.Channels.{Channel}
 use Rattle.guards_model.specs.Missions.{MissionValue, IsMission}
 use Rattle.guards_model.specs.Network.{Log, ballot_of}
 use Rattle.guards_model.specs.Rounds.{Steps}
 use Rattle.guards_model.proofs.Tables.{at-by_channel}
+use Rattle.guards_model.specs.Slots.{stage_after, stage_before}
 use Rattle.guards_runs.specs.Cycles.{Past, Cycle, received_body, cycles_before, cycle_at, mode_in}
 use Rattle.guards_laws.proofs.LogGrows.{length-cycles_before}
 use Rattle.guards_laws.proofs.ControlFacts.{controls_follow}
@@ -30,17 +31,17 @@ module _ (M : MissionValue) (L : Log) (n : ℕ) (steps : Steps) (mission : IsMis
   size = length-cycles_before M L n
 
   voted : (got : Bodies) → AreArrivals M L n Vote got → HaveWorked M L n → (q : Channel) → q < 7 →
-      with_votes M got (node_in M L n steps Vote 5 q) ≡ node_in M L n steps Vote 6 q
+      with_votes M got (node_in M L n steps Vote (stage_before Vote) q) ≡ node_in M L n steps Vote (stage_after Vote) q
   unfolding state_in
   voted got are worked q low =
       ap (node_with M q)
       (running_step_up (after_votes q M.outputs (ballots_arrived got q))
-      (running_value_in M past e steps 5 q) (running_value_in M past e steps 6 q) (joiner_in M past e 5 q) (joiner_in M past e 6 q) (mode_in e q Vote)
+      (running_value_in M past e steps (stage_before Vote) q) (running_value_in M past e steps (stage_before Sweep) q) (joiner_in M past e (stage_before Vote) q) (joiner_in M past e (stage_before Sweep) q) (mode_in e q Vote)
       (λ is. let held = worked q low is in
       votes M L past steps q (controls_follow M L n) low (active_in M L n mission q low Vote is) held.0 held.1 (ballots_arrived got q)
       (λ j small other. at-by_channel (λ p. ballot_of (got p q)) j None small ∙ ap ballot_of (are j q ∙ ap (λ c. received_body M e.entries c Vote j q) (sym size))))
       refl)
 
   pub all_voted : (got : Bodies) → AreArrivals M L n Vote got → HaveWorked M L n →
-      map (with_votes M got) (nodes_in M L n steps Vote 5) ≡ nodes_in M L n steps Vote 6
-  all_voted got are worked = each_node M (with_votes M got) (node_in M L n steps Vote 5) (node_in M L n steps Vote 6) mission (voted got are worked)
+      map (with_votes M got) (nodes_in M L n steps Vote (stage_before Vote)) ≡ nodes_in M L n steps Vote (stage_after Vote)
+  all_voted got are worked = each_node M (with_votes M got) (node_in M L n steps Vote (stage_before Vote)) (node_in M L n steps Vote (stage_after Vote)) mission (voted got are worked)

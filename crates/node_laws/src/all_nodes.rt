@@ -3,7 +3,7 @@
 ghost use Rattle.std.specs.Prelude.{◌≡◌, ◌<◌, true, ℕ, List, ◌∷◌, ◌++◌, map, All};
 ghost use Rattle.guards_model.specs.declared.Slot.{Slot};
 ghost use Rattle.guards_model.specs.declared.Slot.TheVariants.{Request, Vote, Sweep, Final, Switch};
-ghost use Rattle.guards_model.specs.Slots.{up_to, on_bus};
+ghost use Rattle.guards_model.specs.Slots.{up_to, on_bus, stage_after, stage_before};
 ghost use Rattle.guards_model.specs.Channels.{Channel, ChannelSet, has};
 ghost use Rattle.guards_model.specs.Missions.{MissionValue, IsMission, channels_of};
 ghost use Rattle.guards_model.specs.Network.{Log};
@@ -34,7 +34,7 @@ pub fn nodes_open_cycle()
     ensures entered { (M : MissionValue) (L : Log) (n : ℕ) (steps : Steps) → IsMission M →
         map (fallen_if (turned_down (ledger_at_start M.script n (ledger_at M (cycles_before M L n))) (ledger_in M (cycle_at M L n) Request)))
         (nodes_opened M L n steps)
-        ≡ nodes_in M L n steps Request 0 }
+        ≡ nodes_in M L n steps Request (stage_before Request) }
 {}
 
 /// From slot to slot, the nodes of the channels that the ledger tells fell are those of the slot.
@@ -48,33 +48,33 @@ pub fn nodes_enter_slots()
 /// With the requests that arrived, the nodes are those of the request slot handed over.
 pub fn nodes_hear_requests()
     ensures { (M : MissionValue) (L : Log) (n : ℕ) (steps : Steps) (got : Bodies) → IsMission M → AreArrivals M L n Request got →
-        map (with_requests got) (nodes_in M L n steps Request 0) ≡ nodes_in M L n steps Request 1 }
+        map (with_requests got) (nodes_in M L n steps Request (stage_before Request)) ≡ nodes_in M L n steps Request (stage_after Request) }
 {}
 
 /// With the ballots that arrived, where the running channels have worked, the nodes are those of the vote slot handed over.
 pub fn nodes_take_votes()
     ensures { (M : MissionValue) (L : Log) (n : ℕ) (steps : Steps) (got : Bodies) → IsMission M → AreArrivals M L n Vote got → HaveWorked M L n →
-        map (with_votes M got) (nodes_in M L n steps Vote 5) ≡ nodes_in M L n steps Vote 6 }
+        map (with_votes M got) (nodes_in M L n steps Vote (stage_before Vote)) ≡ nodes_in M L n steps Vote (stage_after Vote) }
 {}
 
 /// With the sweep frames that arrived, and the cycle closed, the nodes are those of the sweep slot handed over.
 pub fn nodes_take_sweeps()
     ensures { (M : MissionValue) (L : Log) (n : ℕ) (steps : Steps) (got : Bodies) → IsMission M → AreArrivals M L n Sweep got →
-        map (closed_in M n) (map (with_sweeps n (cycle_at M L n).active got) (nodes_in M L n steps Sweep 6)) ≡ nodes_in M L n steps Sweep 7 }
+        map (closed_in M n) (map (with_sweeps n (cycle_at M L n).active got) (nodes_in M L n steps Sweep (stage_before Sweep))) ≡ nodes_in M L n steps Sweep (stage_after Sweep) }
 {}
 
 /// With the final frames that arrived, the nodes are those of the final slot handed over.
 pub fn nodes_take_finals()
     ensures { (M : MissionValue) (L : Log) (n : ℕ) (steps : Steps) (got : Bodies) → IsMission M → AreArrivals M L n Final got →
-        map (with_finals (cycle_at M L n).active got) (nodes_in M L n steps Final 7) ≡ nodes_in M L n steps Final 8 }
+        map (with_finals (cycle_at M L n).active got) (nodes_in M L n steps Final (stage_before Final)) ≡ nodes_in M L n steps Final (stage_after Final) }
 {}
 
 /// The switch slot hands nothing to the nodes; at the cycle's end those that are switched off rest, and those that took a
 /// content run: they are the nodes of the world after the cycle.
 pub fn nodes_are_switched()
     ensures handed { (M : MissionValue) (L : Log) (n : ℕ) (steps : Steps) → IsMission M →
-        nodes_in M L n steps Switch 8 ≡ nodes_in M L n steps Switch 9 }
+        nodes_in M L n steps Switch (stage_before Switch) ≡ nodes_in M L n steps Switch (stage_after Switch) }
     ensures after { (M : MissionValue) (earlier current : Log) (n : ℕ) (steps : Steps) (carried : ℕ) → IsMission M →
-        map (ended_on (active_set M (cycle_at M (earlier ++ current) n ∷ cycles_before M (earlier ++ current) n))) (nodes_in M (earlier ++ current) n steps Switch 9)
+        map (ended_on (active_set M (cycle_at M (earlier ++ current) n ∷ cycles_before M (earlier ++ current) n))) (nodes_in M (earlier ++ current) n steps Switch (stage_after Switch))
         ≡ (world_after M earlier current steps n carried).nodes }
 {}

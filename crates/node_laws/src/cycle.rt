@@ -1,8 +1,8 @@
 //! How a node passes from one cycle to the next.
 ghost use Rattle.std.specs.Prelude.{◌≡◌, ◌≤◌, ◌<◌, true, ℕ, suc, ◌∷◌, if◌then◌else◌};
 ghost use Rattle.guards_model.specs.declared.Slot.{Slot};
-ghost use Rattle.guards_model.specs.declared.Slot.TheVariants.{Request, Switch};
-ghost use Rattle.guards_model.specs.Slots.{up_to, on_bus};
+ghost use Rattle.guards_model.specs.declared.Slot.TheVariants.{Request, Sweep, Final, Switch};
+ghost use Rattle.guards_model.specs.Slots.{up_to, on_bus, stage_after, stage_before};
 ghost use Rattle.guards_model.specs.Channels.{Channel, has};
 ghost use Rattle.guards_model.specs.Missions.{MissionValue, IsMission, written_blocks};
 ghost use Rattle.guards_model.specs.Network.{Log};
@@ -30,7 +30,7 @@ pub fn crashes_fell()
     ensures first { (M : MissionValue) (L : Log) (n : ℕ) (steps : Steps) (q : Channel) → q < 7 →
         let past = cycles_before M L n in
         let e = cycle_at M L n in
-        state_in M past e steps Request 0 q
+        state_in M past e steps Request (stage_before Request) q
         ≡ (if is_down (mode_in e q Request) then fallen else state_at_opening M past e steps q) }
     ensures later { (M : MissionValue) (L : Log) (n : ℕ) (steps : Steps) (before slot : Slot) (done : ℕ) (q : Channel) → q < 7 →
         up_to before slot ≡ true → on_bus slot ≡ true →
@@ -45,17 +45,17 @@ pub fn cycles_are_closed()
     ensures state { (M : MissionValue) (L : Log) (n : ℕ) (steps : Steps) (q : Channel) →
         let past = cycles_before M L n in
         let e = cycle_at M L n in
-        after_close M.rules (written_blocks M (this_cycle past)) (kept_of e.decision e.inputs) (running_value_in M past e steps 6 q)
-        ≡ running_value_in M past e steps 7 q }
+        after_close M.rules (written_blocks M (this_cycle past)) (kept_of e.decision e.inputs) (running_value_in M past e steps (stage_before Sweep) q)
+        ≡ running_value_in M past e steps (stage_before Final) q }
     ensures answer { (M : MissionValue) (L : Log) (n : ℕ) (q : Channel) →
         let past = cycles_before M L n in
         let e = cycle_at M L n in
-        closed_by M.rules.last (plan_in M.rules (held_in M past e 6 q)) (written_blocks M (this_cycle past)) (held_in M past e 6 q).control
+        closed_by M.rules.last (plan_in M.rules (held_in M past e (stage_before Sweep) q)) (written_blocks M (this_cycle past)) (held_in M past e (stage_before Sweep) q).control
         ≡ closed_of e }
     ensures last_copies { (M : MissionValue) (L : Log) (n : ℕ) (steps : Steps) (q : Channel) →
-        running_value_in M (cycles_before M L n) (cycle_at M L n) steps 7 q ≡ running_value_in M (cycles_before M L n) (cycle_at M L n) steps 8 q }
+        running_value_in M (cycles_before M L n) (cycle_at M L n) steps (stage_before Final) q ≡ running_value_in M (cycles_before M L n) (cycle_at M L n) steps (stage_before Switch) q }
     ensures switches { (M : MissionValue) (L : Log) (n : ℕ) (steps : Steps) (q : Channel) →
-        running_value_in M (cycles_before M L n) (cycle_at M L n) steps 8 q ≡ running_value_in M (cycles_before M L n) (cycle_at M L n) steps 9 q }
+        running_value_in M (cycles_before M L n) (cycle_at M L n) steps (stage_before Switch) q ≡ running_value_in M (cycles_before M L n) (cycle_at M L n) steps (stage_after Switch) q }
 {}
 
 /// At the end of a cycle of a run the nodes that are switched off rest and those that took a final content rise: each
@@ -65,5 +65,5 @@ pub fn nodes_end_cycles()
         HasRun M L (suc n) → q < 7 →
         let past = cycles_before M L n in
         let e = cycle_at M L n in
-        between_cycles (ended_state (has (active_set M (e ∷ past)) q) (state_in M past e steps Switch 9 q)) ≡ state_at M (e ∷ past) q }
+        between_cycles (ended_state (has (active_set M (e ∷ past)) q) (state_in M past e steps Switch (stage_after Switch) q)) ≡ state_at M (e ∷ past) q }
 {}

@@ -1,7 +1,7 @@
 //! What a node owes, and what later entries do not change.
 ghost use Rattle.std.specs.Prelude.{◌≡◌, ◌≤◌, ◌<◌, ℕ, ◌++◌};
 ghost use Rattle.guards_model.specs.declared.Slot.{Slot};
-ghost use Rattle.guards_model.specs.Slots.{slot_index};
+ghost use Rattle.guards_model.specs.Slots.{slot_index, stage_before};
 ghost use Rattle.guards_model.specs.Channels.{Channel};
 ghost use Rattle.guards_model.specs.Missions.{MissionValue, IsMission};
 ghost use Rattle.guards_model.specs.Network.{Log};
@@ -31,7 +31,7 @@ pub fn nodes_owe_due_frames()
         IsMission M → n ≤ M.cycles → HasRun M L n → q < 7 →
         let past = cycles_before M L n in
         let e = cycle_at M L n in
-        body_of M (received_through M past e (slot_index slot) q) slot to
-        (state_in M past e steps slot (slot_index slot) q)
+        body_of M (received_through M past e (stage_before slot) q) slot to
+        (state_in M past e steps slot (stage_before slot) q)
         ≡ body_due M past e steps slot q to }
 {}

@@ -4,7 +4,7 @@ use Rattle.std.specs.Prelude.{map, flat_map, nat_lt}
 use Rattle.std.specs.List.{AllZip, list_all}
 use Rattle.guards_model.specs.declared.Slot.{Slot}
 use Rattle.guards_model.specs.declared.Slot.TheVariants.{Request, Round1, Round2, Round3, Tasks, Vote, Sweep, Final, Switch, Output}
-use Rattle.guards_model.specs.Slots.{slot_index}
+use Rattle.guards_model.specs.Slots.{slot_index, stage_after, stage_before}
 use Rattle.guards_model.specs.Channels.{Channel, without, channels_where}
 use Rattle.guards_model.specs.Missions.{MissionValue, channels_of}
 use Rattle.guards_model.specs.Frames.{BodyValue, spelling}
@@ -71,19 +71,19 @@ slot_early c e slot h = by_frames (carries_frames e slot)
         (λ q. all-map (λ (carry : Carry). is_early carry.slot) (λ to. record { cycle = c; slot = slot; from = q; to = to }) (without (receivers e slot) (q ∷ [])) (λ to. h))
     by_frames false = refl
 
-done_early : (c : ℕ) (e : Cycle) → list_all (λ (carry : Carry). is_early carry.slot) (carries_done c e 5) ≡ true
+done_early : (c : ℕ) (e : Cycle) → list_all (λ (carry : Carry). is_early carry.slot) (carries_done c e (stage_before Vote)) ≡ true
 done_early c e = all_of_flat (λ (carry : Carry). is_early carry.slot) is_early (slot_carries c e) (Request ∷ Round1 ∷ Round2 ∷ Round3 ∷ Tasks ∷ []) refl (slot_early c e)
 
-node_early : (M : MissionValue) (L : Log) (n : ℕ) (steps other : Steps) (q : Channel) → node_in M L n steps Tasks 4 q ≡ node_in M L n other Tasks 4 q
+node_early : (M : MissionValue) (L : Log) (n : ℕ) (steps other : Steps) (q : Channel) → node_in M L n steps Tasks (stage_before Tasks) q ≡ node_in M L n other Tasks (stage_before Tasks) q
 unfolding state_in
 node_early M L n steps other q = refl
 
-nodes_early : (M : MissionValue) (L : Log) (n : ℕ) (steps other : Steps) (qs : List Channel) → map (node_in M L n steps Tasks 4) qs ≡ map (node_in M L n other Tasks 4) qs
+nodes_early : (M : MissionValue) (L : Log) (n : ℕ) (steps other : Steps) (qs : List Channel) → map (node_in M L n steps Tasks (stage_before Tasks)) qs ≡ map (node_in M L n other Tasks (stage_before Tasks)) qs
 nodes_early M L n steps other [] = refl
 nodes_early M L n steps other (q ∷ qs) =
-    ap (λ x. x ∷ map (node_in M L n steps Tasks 4) qs) (node_early M L n steps other q) ∙ ap (λ xs. node_in M L n other Tasks 4 q ∷ xs) (nodes_early M L n steps other qs)
+    ap (λ x. x ∷ map (node_in M L n steps Tasks (stage_before Tasks)) qs) (node_early M L n steps other q) ∙ ap (λ xs. node_in M L n other Tasks (stage_before Tasks) q ∷ xs) (nodes_early M L n steps other qs)
 
-pub comes_later : (M : MissionValue) (earlier current : Log) (steps other : Steps) (w : WorldValue) → InCycle M earlier current steps Tasks 5 4 w → InCycle M earlier current other Tasks 5 4 w
+pub comes_later : (M : MissionValue) (earlier current : Log) (steps other : Steps) (w : WorldValue) → InCycle M earlier current steps Tasks (stage_after Tasks) (stage_before Tasks) w → InCycle M earlier current other Tasks (stage_after Tasks) (stage_before Tasks) w
 comes_later M earlier current steps other w inside =
     let past = cycles_before M (earlier ++ current) w.done in
     let e = cycle_at M (earlier ++ current) w.done in
@@ -96,7 +96,7 @@ comes_later M earlier current steps other w inside =
       before = inside.before;
       unstopped = inside.unstopped;
       made = zip_weaken (λ carry entry. IsMadeBy M past e (steps_of steps carry.from) carry entry) (λ carry entry. IsMadeBy M past e (steps_of other carry.from) carry entry)
-          (λ (carry : Carry). is_early carry.slot) (carries_done w.done e 5) current (done_early w.done e) (made_early M past e steps other) inside.made;
+          (λ (carry : Carry). is_early carry.slot) (carries_done w.done e (stage_before Vote)) current (done_early w.done e) (made_early M past e steps other) inside.made;
       unhalted = inside.unhalted;
       nodes = inside.nodes ∙ nodes_early M (earlier ++ current) w.done steps other (channels_of M);
       ledger = inside.ledger;

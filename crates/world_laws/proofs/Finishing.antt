@@ -3,7 +3,7 @@ use Rattle.std.proofs.Common.{◌≡◌, ℕ, zero, suc, ◌+◌, ◌≤◌, ◌
 use Rattle.std.specs.Prelude.{Ok, Err, IsTrue, option_map, option_and_then, slice_get}
 use Rattle.std.specs.List.{AllZip, AllByRecursion, range_with_len}
 use Rattle.guards_model.specs.declared.Slot.TheVariants.{Tasks, Switch}
-use Rattle.guards_model.specs.Slots.{slot_index}
+use Rattle.guards_model.specs.Slots.{slot_index, stage_after}
 use Rattle.guards_model.specs.Channels.{Channel, ChannelSet, has, without}
 use Rattle.guards_model.specs.Missions.{MissionValue}
 use Rattle.guards_model.specs.Frames.{FinalValue}
@@ -64,7 +64,7 @@ rose k on down h none = absurd cc
 rose k on (waiting n) h none = absurd cc
 rose k on joining h none = refl
 
-module _ (M : MissionValue) (earlier current : Log) (steps : Steps) (w : WorldValue) (inside : InCycle M earlier current steps Switch 9 9 w) where
+module _ (M : MissionValue) (earlier current : Log) (steps : Steps) (w : WorldValue) (inside : InCycle M earlier current steps Switch (stage_after Switch) (stage_after Switch) w) where
   abbrev n : ℕ
   n = w.done
 
@@ -81,7 +81,7 @@ module _ (M : MissionValue) (earlier current : Log) (steps : Steps) (w : WorldVa
   on q = has (active_set M (e ∷ past)) q
 
   abbrev node : Channel → NodeValue
-  node q = node_with M q (ended_state (on q) (state_in M past e steps Switch 9 q))
+  node q = node_with M q (ended_state (on q) (state_in M past e steps Switch (stage_after Switch) q))
 
   stands : StandsForWorld after (earlier ++ current)
   stands = world_goes_on M earlier current steps w inside
@@ -101,7 +101,7 @@ module _ (M : MissionValue) (earlier current : Log) (steps : Steps) (w : WorldVa
   -- ---- who goes on running
 
   abbrev ended_in : Channel → ModeValue → StateValue
-  ended_in q m = ended_state (on q) (state_of_mode (running_state M past e steps 9 q) (joiner_in M past e 9 q) m)
+  ended_in q m = ended_state (on q) (state_of_mode (running_state M past e steps 9 q) (joiner_in M past e (stage_after Switch) q) m)
 
   node_in_mode : (q : Channel) (m : ModeValue) → mode_in e q Switch ≡ m → node q ≡ node_with M q (ended_in q m)
   unfolding state_in
@@ -157,14 +157,14 @@ same_world : (old w : WorldValue) → w.mission ≡ old.mission → w.done ≡ o
 same_world old w mission done = ap (λ (M : MissionValue). record w { mission = M }) mission ∙ ap (λ (n : ℕ). record w { mission = old.mission; done = n }) done
 
 pub finishes : (old w new : WorldValue) (earlier current : Log) (steps : Steps) (part : RecordValue) → w.mission ≡ old.mission → w.done ≡ old.done →
-    InCycle w.mission earlier current steps Switch 9 9 w → AreFull w.mission (cycles_before w.mission (earlier ++ current) w.done) (cycle_at w.mission (earlier ++ current) w.done) steps →
+    InCycle w.mission earlier current steps Switch (stage_after Switch) (stage_after Switch) w → AreFull w.mission (cycles_before w.mission (earlier ++ current) w.done) (cycle_at w.mission (earlier ++ current) w.done) steps →
     shown w.mission.rules.channels w.mission.width (length w.mission.outputs) part ≡ cycle_record w.mission steps w.done (cycle_at w.mission (earlier ++ current) w.done) →
     AllByRecursion (IsLinePadded w.mission) part.lines → new ≡ world_after w.mission earlier current steps w.done w.carried → Ends old earlier current (Ok part) new
 finishes old w new earlier current steps part mission done inside full record_is padded new_is =
     let M = old.mission in
     let same = same_world old w mission done in
     let x = as_old old w in
-    let within : InCycle M earlier current steps Switch 9 9 x = subst (λ (v : WorldValue). InCycle v.mission earlier current steps Switch 9 9 v) same inside in
+    let within : InCycle M earlier current steps Switch (stage_after Switch) (stage_after Switch) x = subst (λ (v : WorldValue). InCycle v.mission earlier current steps Switch (stage_after Switch) (stage_after Switch) v) same inside in
     let ends : world_after M earlier current steps old.done w.carried ≡ new = sym (new_is ∙ ap (λ (v : WorldValue). world_after v.mission earlier current steps v.done v.carried) same) in (
       cycle_at M (earlier ++ current) old.done,
       cycles_before M (earlier ++ current) old.done,

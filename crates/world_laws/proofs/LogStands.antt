@@ -5,7 +5,7 @@ use Rattle.std.specs.List.{AllZip, list_all}
 use Rattle.std.proofs.lemmas.Bool.{leb-true}
 use Rattle.guards_model.specs.declared.Slot.{Slot}
 use Rattle.guards_model.specs.declared.Slot.TheVariants.{Request, Round1, Round2, Round3, Tasks, Vote, Sweep, Final, Switch}
-use Rattle.guards_model.specs.Slots.{slot_index, every_slot}
+use Rattle.guards_model.specs.Slots.{slot_index, every_slot, stage_after}
 use Rattle.guards_model.specs.Channels.{Channel, ChannelSet, has}
 use Rattle.guards_model.specs.Missions.{MissionValue, IsMission, channels_of}
 use Rattle.guards_model.specs.Network.{Log}
@@ -97,7 +97,7 @@ module _ (M : MissionValue) (earlier current : Log) (n : ℕ) (steps : Steps) wh
       }
 
   abbrev node_ended : Channel → NodeValue
-  node_ended q = node_with M q (ended_state (has (active_set M (e ∷ past)) q) (state_in M past e steps Switch 9 q))
+  node_ended q = node_with M q (ended_state (has (active_set M (e ∷ past)) q) (state_in M past e steps Switch (stage_after Switch) q))
 
   each_node : IsMission M → suc n ≤ M.cycles → IsRun M (earlier ++ current) (suc n) → (qs : ChannelSet) → list_all is_channel qs ≡ true →
       map without_progress (map node_ended qs) ≡ map (node_at M (e ∷ past)) qs
@@ -112,7 +112,7 @@ module _ (M : MissionValue) (earlier current : Log) (n : ℕ) (steps : Steps) wh
       map without_progress (map node_ended (channels_of M)) ≡ map (node_at M (e ∷ past)) (channels_of M)
   nodes_end mission more run = each_node mission more run (channels_of M) (set_parts (channels_of M) (active_is_set M [] mission)).0
 
-pub world_goes_on : (M : MissionValue) (earlier current : Log) (steps : Steps) (w : WorldValue) → InCycle M earlier current steps Switch 9 9 w →
+pub world_goes_on : (M : MissionValue) (earlier current : Log) (steps : Steps) (w : WorldValue) → InCycle M earlier current steps Switch (stage_after Switch) (stage_after Switch) w →
     StandsForWorld (world_after M earlier current steps w.done w.carried) (earlier ++ current)
 world_goes_on M earlier current steps w inside =
     let run : IsRun M (earlier ++ current) (suc w.done) = goes_on M earlier current w.done steps inside.before inside.unstopped inside.made inside.unhalted in

@@ -6,7 +6,7 @@ use Rattle.std.proofs.lemmas.Bool.{leb-true, leb-false}
 use Rattle.std.proofs.lemmas.List.{length-append}
 use Rattle.guards_model.specs.declared.Slot.{Slot}
 use Rattle.guards_model.specs.declared.Slot.TheVariants.{Request, Round1, Round2, Round3, Tasks, Vote, Sweep, Final, Switch, Output}
-use Rattle.guards_model.specs.Slots.{slot_index, every_slot, up_to, on_bus}
+use Rattle.guards_model.specs.Slots.{slot_index, every_slot, up_to, on_bus, stage_after, stage_before}
 use Rattle.guards_model.specs.Missions.{MissionValue}
 use Rattle.guards_model.specs.Network.{Log}
 use Rattle.guards_model.specs.Rounds.{Steps, steps_of}
@@ -64,7 +64,7 @@ slots_through Final = refl
 slots_through Switch = refl
 slots_through Output = refl
 
-through_is : (c : ℕ) (e : Cycle) (slot : Slot) → carries_through c e slot ≡ carries_done c e (suc (slot_index slot))
+through_is : (c : ℕ) (e : Cycle) (slot : Slot) → carries_through c e slot ≡ carries_done c e (stage_after slot)
 through_is c e slot = ap (flat_map (slot_carries c e)) (slots_through slot)
 
 -- those of a slot that is not earlier are no fewer
@@ -76,7 +76,7 @@ later_through c e slot later h =
 -- ---- within a slot
 
 module _ (M : MissionValue) (earlier current new : Log) (steps : Steps) (slot : Slot) (on : on_bus slot ≡ true) (w : WorldValue)
-    (inside : InCycle M earlier current steps slot (slot_index slot) (slot_index slot) w) (few : ℕ)
+    (inside : InCycle M earlier current steps slot (stage_before slot) (stage_before slot) w) (few : ℕ)
     (carried : AreDueCarries M (earlier ++ current) w.done steps (take few (slot_carries w.done (cycle_at M (earlier ++ current) w.done) slot)) new) where
   abbrev n : ℕ
   n = w.done
@@ -109,9 +109,9 @@ module _ (M : MissionValue) (earlier current new : Log) (steps : Steps) (slot : 
   within_slot : length (current ++ new) ≤ length (carries_through n after slot)
   within_slot = at_log (λ x. length (current ++ new) ≤ length (carries_through n x slot)) counted
     where
-      before : length current ≡ length (carries_done n more (slot_index slot))
+      before : length current ≡ length (carries_done n more (stage_before slot))
       before =
-          zip_length (λ carry entry. IsMadeBy M past more (steps_of steps carry.from) carry entry) (carries_done n more (slot_index slot)) current
+          zip_length (λ carry entry. IsMadeBy M past more (steps_of steps carry.from) carry entry) (carries_done n more (stage_before slot)) current
           (stay_made M K new n steps slot on late current inside.made)
 
       here : length new ≡ length (take few (slot_carries n more slot))
@@ -119,10 +119,10 @@ module _ (M : MissionValue) (earlier current new : Log) (steps : Steps) (slot : 
           zip_length (λ carry entry. IsMadeBy M past more (steps_of steps carry.from) carry entry) (take few (slot_carries n more slot)) new
           (stay_new M K new n steps slot on late few carried)
 
-      whole : length (carries_through n more slot) ≡ length (carries_done n more (slot_index slot)) + length (slot_carries n more slot)
+      whole : length (carries_through n more slot) ≡ length (carries_done n more (stage_before slot)) + length (slot_carries n more slot)
       whole =
           ap (λ (xs : List Carry). length xs) (through_is n more slot ∙ carries_next n more slot on)
-          ∙ length-append (carries_done n more (slot_index slot)) (slot_carries n more slot)
+          ∙ length-append (carries_done n more (stage_before slot)) (slot_carries n more slot)
 
       counted : length (current ++ new) ≤ length (carries_through n more slot)
       counted = omega (arith, length-append current new, before, here, whole, few_of few (slot_carries n more slot))

@@ -6,7 +6,7 @@ use Rattle.std.proofs.lemmas.Bool.{leb-true, ltb-true, eqb-true}
 use Rattle.std.proofs.lemmas.List.Elements.{All-nil, All-cons}
 use Rattle.guards_model.specs.declared.Slot.{Slot}
 use Rattle.guards_model.specs.declared.Slot.TheVariants.{Request, Round1, Round2, Round3, Tasks, Vote, Sweep, Final, Switch, Output}
-use Rattle.guards_model.specs.Slots.{slot_index, every_slot, same_slot}
+use Rattle.guards_model.specs.Slots.{slot_index, every_slot, same_slot, stage_before}
 use Rattle.guards_model.specs.Channels.{Channel, ChannelSet, has, without, channels_where, every_channel}
 use Rattle.guards_model.specs.Missions.{MissionValue, IsMission, channels_of}
 use Rattle.guards_model.specs.Frames.{BodyValue, is_channel, in_range}
@@ -187,7 +187,7 @@ zip_sent R f P (x ∷ xs) (y ∷ ys) h is z =
     let parts = both (P x) (list_all P xs) h in
     (is x y parts.0 z.0, zip_sent R f P xs ys parts.1 is z.1)
 
-module _ (M : MissionValue) (earlier current : Log) (steps : Steps) (slot : Slot) (w : WorldValue) (inside : InCycle M earlier current steps slot (slot_index slot) (slot_index slot) w) where
+module _ (M : MissionValue) (earlier current : Log) (steps : Steps) (slot : Slot) (w : WorldValue) (inside : InCycle M earlier current steps slot (stage_before slot) (stage_before slot) w) where
   abbrev n : ℕ
   n = w.done
 
@@ -201,10 +201,10 @@ module _ (M : MissionValue) (earlier current : Log) (steps : Steps) (slot : Slot
   e = cycle_at M K n
 
   abbrev received : AllReceived
-  received q = received_through M past e (slot_index slot) q
+  received q = received_through M past e (stage_before slot) q
 
   abbrev node : Channel → NodeValue
-  node q = node_in M K n steps slot (slot_index slot) q
+  node q = node_in M K n steps slot (stage_before slot) q
 
   few : M.rules.channels ≤ 7
   few = channels_few M inside.ranges
@@ -215,7 +215,7 @@ module _ (M : MissionValue) (earlier current : Log) (steps : Steps) (slot : Slot
         before = earlier;
         later = current;
         entries = refl;
-        after = from_now n current (of_cycle M past e steps n (carries_done n e (slot_index slot)) current (all-flat_map (λ (carry : Carry). carry.cycle == n) (slot_carries n e) (take (slot_index slot) every_slot) (carries_of n e)) inside.made);
+        after = from_now n current (of_cycle M past e steps n (carries_done n e (stage_before slot)) current (all-flat_map (λ (carry : Carry). carry.cycle == n) (slot_carries n e) (take (slot_index slot) every_slot) (carries_of n e)) inside.made);
         due = inside.before;
         unstopped = inside.unstopped;
       }
@@ -394,27 +394,27 @@ module _ (M : MissionValue) (earlier current : Log) (steps : Steps) (slot : Slot
 
 -- ---- as the law has them
 
-pub nodes_stand : (M : MissionValue) (earlier current : Log) (steps : Steps) (slot : Slot) (w : WorldValue) → InCycle M earlier current steps slot (slot_index slot) (slot_index slot) w →
-    All (StandsForReceived (λ q. received_through M (cycles_before M (earlier ++ current) w.done) (cycle_at M (earlier ++ current) w.done) (slot_index slot) q)) w.nodes
+pub nodes_stand : (M : MissionValue) (earlier current : Log) (steps : Steps) (slot : Slot) (w : WorldValue) → InCycle M earlier current steps slot (stage_before slot) (stage_before slot) w →
+    All (StandsForReceived (λ q. received_through M (cycles_before M (earlier ++ current) w.done) (cycle_at M (earlier ++ current) w.done) (stage_before slot) q)) w.nodes
 nodes_stand M earlier current steps slot w inside = all_stand M earlier current steps slot w inside
 
-pub nodes_may_send : (M : MissionValue) (earlier current : Log) (steps : Steps) (slot : Slot) (w : WorldValue) → InCycle M earlier current steps slot (slot_index slot) (slot_index slot) w →
+pub nodes_may_send : (M : MissionValue) (earlier current : Log) (steps : Steps) (slot : Slot) (w : WorldValue) → InCycle M earlier current steps slot (stage_before slot) (stage_before slot) w →
     (slot ≡ Sweep → AreFull M (cycles_before M (earlier ++ current) w.done) (cycle_at M (earlier ++ current) w.done) steps) →
-    All (MaySend M w.done slot (λ q. received_through M (cycles_before M (earlier ++ current) w.done) (cycle_at M (earlier ++ current) w.done) (slot_index slot) q)) w.nodes
+    All (MaySend M w.done slot (λ q. received_through M (cycles_before M (earlier ++ current) w.done) (cycle_at M (earlier ++ current) w.done) (stage_before slot) q)) w.nodes
 nodes_may_send M earlier current steps slot w inside full = all_may_send M earlier current steps slot w inside full
 
-pub sent_whole : (M : MissionValue) (earlier current new : Log) (steps : Steps) (slot : Slot) (to : List ℕ) (w : WorldValue) → InCycle M earlier current steps slot (slot_index slot) (slot_index slot) w →
+pub sent_whole : (M : MissionValue) (earlier current new : Log) (steps : Steps) (slot : Slot) (to : List ℕ) (w : WorldValue) → InCycle M earlier current steps slot (stage_before slot) (stage_before slot) w →
     (slot ≡ Sweep → AreFull M (cycles_before M (earlier ++ current) w.done) (cycle_at M (earlier ++ current) w.done) steps) → receivers (cycle_at M (earlier ++ current) w.done) slot ≡ to →
-    AllZip IsEntryOf (all_sends M w.done slot to (λ q. received_through M (cycles_before M (earlier ++ current) w.done) (cycle_at M (earlier ++ current) w.done) (slot_index slot) q) w.nodes) new →
+    AllZip IsEntryOf (all_sends M w.done slot to (λ q. received_through M (cycles_before M (earlier ++ current) w.done) (cycle_at M (earlier ++ current) w.done) (stage_before slot) q) w.nodes) new →
     AllZip (λ carry entry. IsMadeBy M (cycles_before M (earlier ++ current) w.done) (cycle_at M (earlier ++ current) w.done) (steps_of steps carry.from) carry entry) (slot_carries w.done (cycle_at M (earlier ++ current) w.done) slot) new
 sent_whole M earlier current new steps slot to w inside full same sent =
     all_made M earlier current steps slot w inside full new
-    (subst (λ xs. AllZip IsEntryOf (all_sends M w.done slot xs (λ q. received_through M (cycles_before M (earlier ++ current) w.done) (cycle_at M (earlier ++ current) w.done) (slot_index slot) q) w.nodes) new) (sym same) sent)
+    (subst (λ xs. AllZip IsEntryOf (all_sends M w.done slot xs (λ q. received_through M (cycles_before M (earlier ++ current) w.done) (cycle_at M (earlier ++ current) w.done) (stage_before slot) q) w.nodes) new) (sym same) sent)
 
-pub sent_few : (M : MissionValue) (earlier current new : Log) (steps : Steps) (slot : Slot) (to : List ℕ) (number : ℕ) (w : WorldValue) → InCycle M earlier current steps slot (slot_index slot) (slot_index slot) w →
+pub sent_few : (M : MissionValue) (earlier current new : Log) (steps : Steps) (slot : Slot) (to : List ℕ) (number : ℕ) (w : WorldValue) → InCycle M earlier current steps slot (stage_before slot) (stage_before slot) w →
     (slot ≡ Sweep → AreFull M (cycles_before M (earlier ++ current) w.done) (cycle_at M (earlier ++ current) w.done) steps) → receivers (cycle_at M (earlier ++ current) w.done) slot ≡ to →
-    AllZip IsEntryOf (take number (all_sends M w.done slot to (λ q. received_through M (cycles_before M (earlier ++ current) w.done) (cycle_at M (earlier ++ current) w.done) (slot_index slot) q) w.nodes)) new →
+    AllZip IsEntryOf (take number (all_sends M w.done slot to (λ q. received_through M (cycles_before M (earlier ++ current) w.done) (cycle_at M (earlier ++ current) w.done) (stage_before slot) q) w.nodes)) new →
     AllZip (λ carry entry. IsMadeBy M (cycles_before M (earlier ++ current) w.done) (cycle_at M (earlier ++ current) w.done) (steps_of steps carry.from) carry entry) (take number (slot_carries w.done (cycle_at M (earlier ++ current) w.done) slot)) new
 sent_few M earlier current new steps slot to number w inside full same sent =
     few_made M earlier current steps slot w inside full number new
-    (subst (λ xs. AllZip IsEntryOf (take number (all_sends M w.done slot xs (λ q. received_through M (cycles_before M (earlier ++ current) w.done) (cycle_at M (earlier ++ current) w.done) (slot_index slot) q) w.nodes)) new) (sym same) sent)
+    (subst (λ xs. AllZip IsEntryOf (take number (all_sends M w.done slot xs (λ q. received_through M (cycles_before M (earlier ++ current) w.done) (cycle_at M (earlier ++ current) w.done) (stage_before slot) q) w.nodes)) new) (sym same) sent)

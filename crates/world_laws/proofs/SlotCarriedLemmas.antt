@@ -8,7 +8,7 @@ use Rattle.std.proofs.lemmas.List.Elements.{filter-append}
 use Rattle.std.proofs.lemmas.Grind.{flat_map-append}
 use Rattle.guards_model.specs.declared.Slot.{Slot}
 use Rattle.guards_model.specs.declared.Slot.TheVariants.{Request, Round1, Round2, Round3, Tasks, Vote, Sweep, Final, Switch, Output}
-use Rattle.guards_model.specs.Slots.{slot_index, every_slot, up_to, on_bus}
+use Rattle.guards_model.specs.Slots.{slot_index, every_slot, up_to, on_bus, stage_after, stage_before}
 use Rattle.guards_model.specs.Channels.{without, channels_where}
 use Rattle.guards_model.specs.Missions.{MissionValue}
 use Rattle.guards_model.specs.Frames.{BodyValue, spelling}
@@ -114,11 +114,11 @@ through_slot Final on = refl
 through_slot Switch on = refl
 through_slot Output on = absurd cc
 
-pub carries_next : (c : ℕ) (x : Cycle) (slot : Slot) → on_bus slot ≡ true → carries_done c x (suc (slot_index slot)) ≡ carries_done c x (slot_index slot) ++ slot_carries c x slot
+pub carries_next : (c : ℕ) (x : Cycle) (slot : Slot) → on_bus slot ≡ true → carries_done c x (stage_after slot) ≡ carries_done c x (stage_before slot) ++ slot_carries c x slot
 carries_next c x slot on =
     ap (flat_map (slot_carries c x)) (with_slot slot on)
     ∙ flat_map-append (slot_carries c x) (take (slot_index slot) every_slot) (slot ∷ [])
-    ∙ ap (λ ys. carries_done c x (slot_index slot) ++ ys) (append-nil (slot_carries c x slot))
+    ∙ ap (λ ys. carries_done c x (stage_before slot) ++ ys) (append-nil (slot_carries c x slot))
 
 -- the carries of a slot are in it
 slot_of : (c : ℕ) (x : Cycle) (slot : Slot) (k : ℕ) → nat_le (slot_index slot) k ≡ true → list_all (λ (carry : Carry). nat_le (slot_index carry.slot) k) (slot_carries c x slot) ≡ true
@@ -130,7 +130,7 @@ slot_of c x slot k small = by_frames (carries_frames x slot)
         (λ q. all-map (λ (carry : Carry). nat_le (slot_index carry.slot) k) (λ to. record { cycle = c; slot = slot; from = q; to = to }) (without (receivers x slot) (q ∷ [])) (λ to. small))
     by_frames false = refl
 
-done_of : (c : ℕ) (x : Cycle) (slot : Slot) → on_bus slot ≡ true → list_all (λ (carry : Carry). nat_le (slot_index carry.slot) (slot_index slot)) (carries_done c x (slot_index slot)) ≡ true
+done_of : (c : ℕ) (x : Cycle) (slot : Slot) → on_bus slot ≡ true → list_all (λ (carry : Carry). nat_le (slot_index carry.slot) (slot_index slot)) (carries_done c x (stage_before slot)) ≡ true
 done_of c x slot on =
     all_of_flat (λ (carry : Carry). nat_le (slot_index carry.slot) (slot_index slot)) (λ s. nat_lt (slot_index s) (slot_index slot)) (slot_carries c x) (take (slot_index slot) every_slot)
     (earlier_slots slot on)
@@ -208,7 +208,7 @@ module _ (M : MissionValue) (K new : Log) (n : ℕ) (steps : Steps) (slot : Slot
   pub carries_same : (m : ℕ) → m ≡ c → (s : Slot) → nat_le (slot_index s) (slot_index slot) ≡ true → slot_carries m e s ≡ slot_carries m more s
   carries_same m is s h = subst (λ k. slot_carries k e s ≡ slot_carries k more s) (sym is) (sym (frames s h).carries)
 
-  done_same : (m : ℕ) → m ≡ c → carries_done m e (slot_index slot) ≡ carries_done m more (slot_index slot)
+  done_same : (m : ℕ) → m ≡ c → carries_done m e (stage_before slot) ≡ carries_done m more (stage_before slot)
   done_same m is =
       flat_map_on (λ s. nat_lt (slot_index s) (slot_index slot)) (slot_carries m e) (slot_carries m more) (take (slot_index slot) every_slot) (earlier_slots slot on)
       (λ s h. carries_same m is s (le-leb (slot_index s) (slot_index slot) (omega (arith, ltb-true (slot_index s) (slot_index slot) h))))
@@ -220,10 +220,10 @@ module _ (M : MissionValue) (K new : Log) (n : ℕ) (steps : Steps) (slot : Slot
   is_n = sym (length-cycles_before M K n)
 
   -- the entries that were made so far
-  pub stay_made : (now : Log) → AllZip (Made e) (carries_done n e (slot_index slot)) now → AllZip (Made more) (carries_done n more (slot_index slot)) now
+  pub stay_made : (now : Log) → AllZip (Made e) (carries_done n e (stage_before slot)) now → AllZip (Made more) (carries_done n more (stage_before slot)) now
   stay_made now z =
       subst (λ carries. AllZip (Made more) carries now) (done_same n is_n)
-      (zip_weaken (Made e) (Made more) (λ (carry : Carry). nat_le (slot_index carry.slot) (slot_index slot)) (carries_done n e (slot_index slot)) now (done_of n e slot on) made z)
+      (zip_weaken (Made e) (Made more) (λ (carry : Carry). nat_le (slot_index carry.slot) (slot_index slot)) (carries_done n e (stage_before slot)) now (done_of n e slot on) made z)
 
   -- and those of the slot, as far as they were made
   pub stay_new : (few : ℕ) → AllZip (Made e) (take few (slot_carries n e slot)) new → AllZip (Made more) (take few (slot_carries n more slot)) new

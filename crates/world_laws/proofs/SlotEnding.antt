@@ -7,7 +7,7 @@ use Rattle.std.proofs.lemmas.List.Elements.{filter-append}
 use Rattle.std.proofs.lemmas.List.Folds.{list_any-append}
 use Rattle.guards_model.specs.declared.Slot.{Slot}
 use Rattle.guards_model.specs.declared.Slot.TheVariants.{Request, Round1, Round2, Round3, Tasks, Vote, Sweep, Final, Switch, Output}
-use Rattle.guards_model.specs.Slots.{slot_index, every_slot, on_bus, up_to}
+use Rattle.guards_model.specs.Slots.{slot_index, every_slot, on_bus, up_to, stage_before}
 use Rattle.guards_model.specs.Channels.{Channel, ChannelSet, has, place_or, by_channel, channels_where}
 use Rattle.guards_model.specs.Ledgers.{LedgerValue, disturbed_by, limit_reached}
 use Rattle.guards_model.specs.Missions.{MissionValue}
@@ -103,7 +103,7 @@ ledger_of M slot o =
     }
 
 module _ (M : MissionValue) (earlier current new : Log) (steps : Steps) (slot : Slot) (w : WorldValue) (on : on_bus slot ≡ true)
-    (inside : InCycle M earlier current steps slot (slot_index slot) (slot_index slot) w)
+    (inside : InCycle M earlier current steps slot (stage_before slot) (stage_before slot) w)
     (carried : AreDueCarries M (earlier ++ current) w.done steps (slot_carries w.done (cycle_at M (earlier ++ current) w.done) slot) new) where
   abbrev n : ℕ
   n = w.done
@@ -132,7 +132,7 @@ module _ (M : MissionValue) (earlier current new : Log) (steps : Steps) (slot : 
   these : list_all (λ (y : EntryValue). y.cycle == n) (current ++ new) ≡ true
   these =
       all-append (λ (y : EntryValue). y.cycle == n) current new
-      (of_cycle M K n steps (carries_done n e (slot_index slot)) current (all-flat_map (λ (carry : Carry). carry.cycle == n) (slot_carries n e) (take (slot_index slot) every_slot) (carries_of n e)) inside.made)
+      (of_cycle M K n steps (carries_done n e (stage_before slot)) current (all-flat_map (λ (carry : Carry). carry.cycle == n) (slot_carries n e) (take (slot_index slot) every_slot) (carries_of n e)) inside.made)
       (of_cycle M K n steps (slot_carries n e slot) new (carries_of n e slot) carried)
 
   entries_are : x.entries ≡ current ++ new
@@ -155,7 +155,7 @@ module _ (M : MissionValue) (earlier current new : Log) (steps : Steps) (slot : 
 
   now_slots : list_all (λ (y : EntryValue). up_to_slot y.slot) current ≡ true
   now_slots =
-      slots_of M K n steps up_to_slot (carries_done n e (slot_index slot)) current
+      slots_of M K n steps up_to_slot (carries_done n e (stage_before slot)) current
       (all_of_flat (λ (carry : Carry). up_to_slot carry.slot) (λ s. nat_lt (slot_index s) (slot_index slot)) (slot_carries n e) (take (slot_index slot) every_slot) (earlier_slots slot on)
       (λ s h. in_slot n e s up_to_slot (le-leb (slot_index s) (slot_index slot) (omega (arith, leb-true (suc (slot_index s)) (slot_index slot) h)))))
       inside.made
@@ -194,7 +194,7 @@ module _ (M : MissionValue) (earlier current new : Log) (steps : Steps) (slot : 
         }
 
 pub slot_ends : (M : MissionValue) (earlier current new : Log) (steps : Steps) (slot : Slot) (active charged marked : ChannelSet) (w : WorldValue) → on_bus slot ≡ true →
-    InCycle M earlier current steps slot (slot_index slot) (slot_index slot) w → AreDueCarries M (earlier ++ current) w.done steps (slot_carries w.done (cycle_at M (earlier ++ current) w.done) slot) new →
+    InCycle M earlier current steps slot (stage_before slot) (stage_before slot) w → AreDueCarries M (earlier ++ current) w.done steps (slot_carries w.done (cycle_at M (earlier ++ current) w.done) slot) new →
     active ≡ (cycle_at M (earlier ++ current) w.done).active → ((q : Channel) → q < 7 → has charged q ≡ list_any (is_charge w.done Switch q) current) →
     ((q : Channel) → q < 7 → has marked q ≡ (has charged q || list_any (is_charge w.done slot q) new)) → SlotEnds M earlier current new steps slot active marked w
 slot_ends M earlier current new steps slot active charged marked w on inside carried active_is charged_are marked_are = ends M earlier current new steps slot w on inside carried active charged marked active_is charged_are marked_are

@@ -9,7 +9,7 @@ use Rattle.std.proofs.lemmas.List.Elements.{filter-append}
 use Rattle.std.proofs.lemmas.Grind.{flat_map-append}
 use Rattle.guards_model.specs.declared.Slot.{Slot}
 use Rattle.guards_model.specs.declared.Slot.TheVariants.{Request, Round1, Round2, Round3, Tasks, Vote, Sweep, Final, Switch, Output}
-use Rattle.guards_model.specs.Slots.{slot_index, every_slot, on_bus}
+use Rattle.guards_model.specs.Slots.{slot_index, every_slot, on_bus, stage_after, stage_before}
 use Rattle.guards_model.specs.Channels.{Channel, without, channels_where}
 use Rattle.guards_model.specs.Missions.{MissionValue, channels_of}
 use Rattle.guards_model.specs.Network.{EntryValue, Log}
@@ -37,7 +37,7 @@ use Rattle.world_laws.proofs.SlotCarriedLemmas.{zip_append, carries_same, is_n, 
 -- ---- a cycle is entered
 
 pub enters_cycle : (w : WorldValue) (L : Log) (steps : Steps) → StandsForWorld w L → w.done < w.mission.cycles → w.spent ≡ None →
-    InCycle w.mission L [] steps Request 0 0 (world_in w.mission (L ++ []) steps Request 0 w)
+    InCycle w.mission L [] steps Request (stage_before Request) (stage_before Request) (world_in w.mission (L ++ []) steps Request 0 w)
 enters_cycle w L steps stands below unspent =
     let same : L ≡ L ++ [] = sym (append-nil L) in
     record {
@@ -115,7 +115,7 @@ in_slot c x slot P h = by_frames (carries_frames x slot)
         (λ q. all-map (λ (carry : Carry). P carry.slot) (λ to. record { cycle = c; slot = slot; from = q; to = to }) (without (receivers x slot) (q ∷ [])) (λ to. h))
     by_frames false = refl
 
-done_before : (c : ℕ) (x : Cycle) (slot : Slot) → on_bus slot ≡ true → list_all (λ (carry : Carry). nat_lt (slot_index carry.slot) (slot_index slot)) (carries_done c x (slot_index slot)) ≡ true
+done_before : (c : ℕ) (x : Cycle) (slot : Slot) → on_bus slot ≡ true → list_all (λ (carry : Carry). nat_lt (slot_index carry.slot) (slot_index slot)) (carries_done c x (stage_before slot)) ≡ true
 done_before c x slot on =
     all_of_flat (λ (carry : Carry). nat_lt (slot_index carry.slot) (slot_index slot)) (λ s. nat_lt (slot_index s) (slot_index slot)) (slot_carries c x) (take (slot_index slot) every_slot) (earlier_slots slot on)
     (λ s h. in_slot c x s (λ t. nat_lt (slot_index t) (slot_index slot)) h)
@@ -191,7 +191,7 @@ this_or_earlier s slot P true is early before here = subst P (sym (one_place s s
 this_or_earlier s slot P false is early before here = before s (grind (arith, early, is))
 
 module _ (M : MissionValue) (earlier current new : Log) (steps : Steps) (slot : Slot) (on : on_bus slot ≡ true) (w : WorldValue)
-    (inside : InCycle M earlier current steps slot (slot_index slot) (slot_index slot) w) (few : ℕ)
+    (inside : InCycle M earlier current steps slot (stage_before slot) (stage_before slot) w) (few : ℕ)
     (carried : AreDueCarries M (earlier ++ current) w.done steps (take few (slot_carries w.done (cycle_at M (earlier ++ current) w.done) slot)) new) where
   abbrev n : ℕ
   n = w.done
@@ -224,16 +224,16 @@ module _ (M : MissionValue) (earlier current new : Log) (steps : Steps) (slot : 
   at_log : (Φ : Past → Cycle → Type 0) → Φ past more → Φ (cycles_before M (earlier ++ (current ++ new)) n) (cycle_at M (earlier ++ (current ++ new)) n)
   at_log Φ h = subst (λ (X : Log). Φ (cycles_before M X n) (cycle_at M X n)) (append_assoc earlier current new) (grown M K new n steps slot on late Φ h)
 
-  made : AllZip (λ carry entry. IsMadeBy M past more (steps_of steps carry.from) carry entry) (carries_done n more (slot_index slot) ++ take few (slot_carries n more slot)) (current ++ new)
+  made : AllZip (λ carry entry. IsMadeBy M past more (steps_of steps carry.from) carry entry) (carries_done n more (stage_before slot) ++ take few (slot_carries n more slot)) (current ++ new)
   made =
-      zip_append (λ carry entry. IsMadeBy M past more (steps_of steps carry.from) carry entry) (carries_done n more (slot_index slot)) (take few (slot_carries n more slot)) current new
+      zip_append (λ carry entry. IsMadeBy M past more (steps_of steps carry.from) carry entry) (carries_done n more (stage_before slot)) (take few (slot_carries n more slot)) current new
       (stay_made M K new n steps slot on late current inside.made) (stay_new M K new n steps slot on late few carried)
 
-  nodes_same : w.nodes ≡ map (node_in M (earlier ++ (current ++ new)) n steps slot (slot_index slot)) (channels_of M)
+  nodes_same : w.nodes ≡ map (node_in M (earlier ++ (current ++ new)) n steps slot (stage_before slot)) (channels_of M)
   nodes_same =
       inside.nodes
       ∙ ap (λ (f : Channel → NodeValue). map f (channels_of M)) (fun_ext (λ q. sym (node_stays M K new n steps slot (slot_index slot) q late)))
-      ∙ ap (λ (X : Log). map (node_in M X n steps slot (slot_index slot)) (channels_of M)) (append_assoc earlier current new)
+      ∙ ap (λ (X : Log). map (node_in M X n steps slot (stage_before slot)) (channels_of M)) (append_assoc earlier current new)
 
   unhalted_before : (s : Slot) → slot_index s < slot_index slot → halts n (cycle_at M (earlier ++ (current ++ new)) n) s ≡ false
   unhalted_before s early = at_log (λ p x. halts n x s ≡ false) (halts_same M K new n steps slot on late s early ∙ inside.unhalted s early)
@@ -252,13 +252,13 @@ module _ (M : MissionValue) (earlier current new : Log) (steps : Steps) (slot : 
     all_of_slot : take few (slot_carries n more slot) ≡ slot_carries n more slot
     all_of_slot = ap (take few) (sym next_carries) ∙ ap (λ k. take k (slot_carries n e slot)) all ∙ take_all (slot_carries n e slot) ∙ next_carries
 
-    made_all : AreDueCarries M (earlier ++ (current ++ new)) n steps (carries_done n after (suc (slot_index slot))) (current ++ new)
+    made_all : AreDueCarries M (earlier ++ (current ++ new)) n steps (carries_done n after (stage_after slot)) (current ++ new)
     made_all =
-        at_log (λ p x. AllZip (λ carry entry. IsMadeBy M p x (steps_of steps carry.from) carry entry) (carries_done n x (suc (slot_index slot))) (current ++ new))
+        at_log (λ p x. AllZip (λ carry entry. IsMadeBy M p x (steps_of steps carry.from) carry entry) (carries_done n x (stage_after slot)) (current ++ new))
         (subst (λ carries. AllZip (λ carry entry. IsMadeBy M past more (steps_of steps carry.from) carry entry) carries (current ++ new))
-        (ap (λ xs. carries_done n more (slot_index slot) ++ xs) all_of_slot ∙ sym (carries_next n more slot on)) made)
+        (ap (λ xs. carries_done n more (stage_before slot) ++ xs) all_of_slot ∙ sym (carries_next n more slot on)) made)
 
-    pub carries_slot : halts n after slot ≡ false → InCycle M earlier (current ++ new) steps slot (suc (slot_index slot)) (slot_index slot) (world_carried (length new) w)
+    pub carries_slot : halts n after slot ≡ false → InCycle M earlier (current ++ new) steps slot (stage_after slot) (stage_before slot) (world_carried (length new) w)
     carries_slot goes =
         record {
           mission = inside.mission;
@@ -291,11 +291,11 @@ module _ (M : MissionValue) (earlier current new : Log) (steps : Steps) (slot : 
         let longer : Log = earlier ++ (current ++ new) in
         let P : Past = cycles_before M longer n in
         let size : length P ≡ n = length-cycles_before M longer n in
-        let due : AllZip (IsDue M P after) (carries_done n after (suc (slot_index slot))) (current ++ new) =
-        zip_map (λ carry entry. IsMadeBy M P after (steps_of steps carry.from) carry entry) (IsDue M P after) (carries_done n after (suc (slot_index slot))) (current ++ new)
+        let due : AllZip (IsDue M P after) (carries_done n after (stage_after slot)) (current ++ new) =
+        zip_map (λ carry entry. IsMadeBy M P after (steps_of steps carry.from) carry entry) (IsDue M P after) (carries_done n after (stage_after slot)) (current ++ new)
         (λ carry entry h. made_is_due M P after (steps_of steps carry.from) carry entry h) made_all in
         let these : list_all (λ (x : EntryValue). x.cycle == n) (current ++ new) ≡ true =
-        entries_cycle M P after n (carries_done n after (suc (slot_index slot))) (current ++ new) due
+        entries_cycle M P after n (carries_done n after (stage_after slot)) (current ++ new) due
         (all-flat_map (λ (x : Carry). x.cycle == n) (slot_carries n after) (take (suc (slot_index slot)) every_slot) (carries_of n after)) in
         let before : AreDue M P earlier = at_log (λ p x. AreDue M p earlier) inside.before in
         entries_now M longer P
@@ -313,7 +313,7 @@ module _ (M : MissionValue) (earlier current new : Log) (steps : Steps) (slot : 
         subst (λ entries. AllZip (Arrives M entries) (slot_carries n e slot) new) (sym cycle_entries)
         (arrives M past e steps (slot_carries n e slot) (slot_index slot) current new (carries_apart M K n n inside.ranges slot)
         (in_slot n e slot (λ s. nat_le (slot_index slot) (slot_index s)) (le-leb (slot_index slot) (slot_index slot) (omega arith)))
-        (slots_made M past e steps (λ s. nat_lt (slot_index s) (slot_index slot)) (carries_done n e (slot_index slot)) current (done_before n e slot on) inside.made)
+        (slots_made M past e steps (λ s. nat_lt (slot_index s) (slot_index slot)) (carries_done n e (stage_before slot)) current (done_before n e slot on) inside.made)
         carried_all)
 
     -- it is read from the entries of the slot alone
@@ -321,14 +321,14 @@ module _ (M : MissionValue) (earlier current new : Log) (steps : Steps) (slot : 
     alone from to =
         ap (λ entries. received_body M entries n slot from to) cycle_entries
         ∙ slot_alone M n slot from to current new
-        (slots_made M past e steps (λ s. nat_lt (slot_index s) (slot_index slot)) (carries_done n e (slot_index slot)) current (done_before n e slot on) inside.made)
+        (slots_made M past e steps (λ s. nat_lt (slot_index s) (slot_index slot)) (carries_done n e (stage_before slot)) current (done_before n e slot on) inside.made)
 
     -- and nothing else is received in the slot
     pub nothing_else_arrives : (from to : ℕ) → list_any (is_carry_between from to) (slot_carries n e slot) ≡ false → received_body M after.entries n slot from to ≡ None
     nothing_else_arrives from to absent =
         ap (λ entries. received_body M entries n slot from to) cycle_entries
         ∙ nothing_else M past e steps n slot from to (slot_carries n e slot) current new absent
-        (slots_made M past e steps (λ s. nat_lt (slot_index s) (slot_index slot)) (carries_done n e (slot_index slot)) current (done_before n e slot on) inside.made)
+        (slots_made M past e steps (λ s. nat_lt (slot_index s) (slot_index slot)) (carries_done n e (stage_before slot)) current (done_before n e slot on) inside.made)
         carried_all
 
   -- as far as it was carried, it is a front of the due entries
@@ -337,34 +337,34 @@ module _ (M : MissionValue) (earlier current new : Log) (steps : Steps) (slot : 
       at_log (λ p x. AllZip (IsDue M p x) (take (length (current ++ new)) (cycle_carries n x)) (current ++ new))
       (subst (λ carries. AllZip (IsDue M past more) carries (current ++ new)) front due)
     where
-      due : AllZip (IsDue M past more) (carries_done n more (slot_index slot) ++ take few (slot_carries n more slot)) (current ++ new)
+      due : AllZip (IsDue M past more) (carries_done n more (stage_before slot) ++ take few (slot_carries n more slot)) (current ++ new)
       due =
-          zip_map (λ carry entry. IsMadeBy M past more (steps_of steps carry.from) carry entry) (IsDue M past more) (carries_done n more (slot_index slot) ++ take few (slot_carries n more slot)) (current ++ new)
+          zip_map (λ carry entry. IsMadeBy M past more (steps_of steps carry.from) carry entry) (IsDue M past more) (carries_done n more (stage_before slot) ++ take few (slot_carries n more slot)) (current ++ new)
           (λ carry entry h. made_is_due M past more (steps_of steps carry.from) carry entry h) made
 
-      size : length (current ++ new) ≡ length (carries_done n more (slot_index slot)) + length (take few (slot_carries n more slot))
-      size = zip_length (IsDue M past more) (carries_done n more (slot_index slot) ++ take few (slot_carries n more slot)) (current ++ new) due ∙ length-append (carries_done n more (slot_index slot)) (take few (slot_carries n more slot))
+      size : length (current ++ new) ≡ length (carries_done n more (stage_before slot)) + length (take few (slot_carries n more slot))
+      size = zip_length (IsDue M past more) (carries_done n more (stage_before slot) ++ take few (slot_carries n more slot)) (current ++ new) due ∙ length-append (carries_done n more (stage_before slot)) (take few (slot_carries n more slot))
 
       rest : List Carry
       rest = flat_map (slot_carries n more) (drop (suc (slot_index slot)) every_slot)
 
-      whole : cycle_carries n more ≡ carries_done n more (slot_index slot) ++ (slot_carries n more slot ++ rest)
+      whole : cycle_carries n more ≡ carries_done n more (stage_before slot) ++ (slot_carries n more slot ++ rest)
       whole =
           ap (flat_map (slot_carries n more)) (split_at (suc (slot_index slot)) every_slot)
           ∙ flat_map-append (slot_carries n more) (take (suc (slot_index slot)) every_slot) (drop (suc (slot_index slot)) every_slot)
           ∙ ap (λ xs. xs ++ rest) (carries_next n more slot on)
-          ∙ append_assoc (carries_done n more (slot_index slot)) (slot_carries n more slot) rest
+          ∙ append_assoc (carries_done n more (stage_before slot)) (slot_carries n more slot) rest
 
-      front : carries_done n more (slot_index slot) ++ take few (slot_carries n more slot) ≡ take (length (current ++ new)) (cycle_carries n more)
+      front : carries_done n more (stage_before slot) ++ take few (slot_carries n more slot) ≡ take (length (current ++ new)) (cycle_carries n more)
       front =
-          ap (λ xs. carries_done n more (slot_index slot) ++ xs) (sym (front_of few (slot_carries n more slot) rest))
-          ∙ sym (front_past (carries_done n more (slot_index slot)) (slot_carries n more slot ++ rest) (length (take few (slot_carries n more slot))))
-          ∙ ap (λ k. take k (carries_done n more (slot_index slot) ++ (slot_carries n more slot ++ rest))) (sym size)
+          ap (λ xs. carries_done n more (stage_before slot) ++ xs) (sym (front_of few (slot_carries n more slot) rest))
+          ∙ sym (front_past (carries_done n more (stage_before slot)) (slot_carries n more slot ++ rest) (length (take few (slot_carries n more slot))))
+          ∙ ap (λ k. take k (carries_done n more (stage_before slot) ++ (slot_carries n more slot ++ rest))) (sym size)
           ∙ ap (take (length (current ++ new))) (sym whole)
 
 -- ---- once the rounds are carried
 
-pub rounds_carried : (M : MissionValue) (earlier current : Log) (steps : Steps) (slot : Slot) (handed : ℕ) (w : WorldValue) → InCycle M earlier current steps slot 4 handed w →
+pub rounds_carried : (M : MissionValue) (earlier current : Log) (steps : Steps) (slot : Slot) (handed : ℕ) (w : WorldValue) → InCycle M earlier current steps slot (stage_before Tasks) handed w →
     DecideAlike M (cycles_before M (earlier ++ current) w.done) (cycle_at M (earlier ++ current) w.done)
 rounds_carried M earlier current steps slot handed w inside =
     let n = w.done in
@@ -374,7 +374,7 @@ rounds_carried M earlier current steps slot handed w inside =
     let size : c ≡ n = length-cycles_before M (earlier ++ current) n in
     let due : AllZip (IsDue M past e) (carries_through c e Round3) current =
     subst (λ m. AllZip (IsDue M past e) (carries_through m e Round3) current) (sym size)
-    (zip_map (λ carry entry. IsMadeBy M past e (steps_of steps carry.from) carry entry) (IsDue M past e) (carries_done n e 4) current (λ carry entry h. made_is_due M past e (steps_of steps carry.from) carry entry h) inside.made) in
+    (zip_map (λ carry entry. IsMadeBy M past e (steps_of steps carry.from) carry entry) (IsDue M past e) (carries_done n e (stage_before Tasks)) current (λ carry entry h. made_is_due M past e (steps_of steps carry.from) carry entry h) inside.made) in
     let these : list_all (λ (x : EntryValue). x.cycle == c) current ≡ true = entries_cycle M past e c (carries_through c e Round3) current due (all_through c e Round3) in
     let entries : e.entries ≡ current ++ [] =
     entries_now M (earlier ++ current) past
@@ -386,7 +386,7 @@ rounds_carried M earlier current steps slot handed w inside =
     (record { now = current; rest = []; entries = entries; due = due; unstopped = subst (λ m. halts m e Round3 ≡ false) (sym size) (inside.unhalted Round3 (omega arith)) })
 
 -- the entries of a cycle all of whose slots are carried
-pub all_carried : (M : MissionValue) (earlier current : Log) (steps : Steps) (slot : Slot) (handed : ℕ) (w : WorldValue) → InCycle M earlier current steps slot 9 handed w →
+pub all_carried : (M : MissionValue) (earlier current : Log) (steps : Steps) (slot : Slot) (handed : ℕ) (w : WorldValue) → InCycle M earlier current steps slot (stage_after Switch) handed w →
     (cycle_at M (earlier ++ current) w.done).entries ≡ current
 all_carried M earlier current steps slot handed w inside =
     let n = w.done in
@@ -396,7 +396,7 @@ all_carried M earlier current steps slot handed w inside =
     let size : c ≡ n = length-cycles_before M (earlier ++ current) n in
     let due : AllZip (IsDue M past e) (carries_through c e Switch) current =
     subst (λ m. AllZip (IsDue M past e) (carries_through m e Switch) current) (sym size)
-    (zip_map (λ carry entry. IsMadeBy M past e (steps_of steps carry.from) carry entry) (IsDue M past e) (carries_done n e 9) current (λ carry entry h. made_is_due M past e (steps_of steps carry.from) carry entry h) inside.made) in
+    (zip_map (λ carry entry. IsMadeBy M past e (steps_of steps carry.from) carry entry) (IsDue M past e) (carries_done n e (stage_after Switch)) current (λ carry entry h. made_is_due M past e (steps_of steps carry.from) carry entry h) inside.made) in
     let these : list_all (λ (x : EntryValue). x.cycle == c) current ≡ true = entries_cycle M past e c (carries_through c e Switch) current due (all_through c e Switch) in
     entries_now M (earlier ++ current) past
     ∙ filter-append (λ (x : EntryValue). x.cycle == c) earlier current

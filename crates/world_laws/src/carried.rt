@@ -3,7 +3,7 @@ ghost use Rattle.std.specs.Prelude.{◌≡◌, ◌<◌, ◌||◌, true, ℕ, ◌
 ghost use Rattle.std.specs.List.{list_any};
 ghost use Rattle.guards_model.specs.declared.Slot.{Slot};
 ghost use Rattle.guards_model.specs.declared.Slot.TheVariants.{Switch};
-ghost use Rattle.guards_model.specs.Slots.{slot_index, on_bus};
+ghost use Rattle.guards_model.specs.Slots.{slot_index, on_bus, stage_before};
 ghost use Rattle.guards_model.specs.Channels.{Channel, ChannelSet, has};
 ghost use Rattle.guards_model.specs.Missions.{MissionValue};
 ghost use Rattle.guards_model.specs.Network.{Log};
@@ -20,7 +20,7 @@ ghost use Rattle.world_laws.specs.Ended.{SlotEnds};
 /// were charged before, what the world holds tells who is disturbed and whether the run stops in the slot.
 pub fn slots_end()
     ensures { (M : MissionValue) (earlier current new : Log) (steps : Steps) (slot : Slot) (active charged marked : ChannelSet) (w : WorldValue) →
-        on_bus slot ≡ true → InCycle M earlier current steps slot (slot_index slot) (slot_index slot) w →
+        on_bus slot ≡ true → InCycle M earlier current steps slot (stage_before slot) (stage_before slot) w →
         AreDueCarries M (earlier ++ current) w.done steps (slot_carries w.done (cycle_at M (earlier ++ current) w.done) slot) new →
         active ≡ (cycle_at M (earlier ++ current) w.done).active →
         ((q : Channel) → q < 7 → has charged q ≡ list_any (is_charge w.done Switch q) current) →

@@ -2,8 +2,8 @@
 ghost use Rattle.std.specs.Prelude.{◌≡◌, ◌<◌, true, false, ℕ, suc, [], ◌++◌, length, take, None};
 ghost use Rattle.std.specs.List.{AllZip, list_any};
 ghost use Rattle.guards_model.specs.declared.Slot.{Slot};
-ghost use Rattle.guards_model.specs.declared.Slot.TheVariants.{Request, Switch};
-ghost use Rattle.guards_model.specs.Slots.{slot_index, on_bus};
+ghost use Rattle.guards_model.specs.declared.Slot.TheVariants.{Request, Tasks, Switch};
+ghost use Rattle.guards_model.specs.Slots.{slot_index, on_bus, stage_after, stage_before};
 ghost use Rattle.guards_model.specs.Missions.{MissionValue};
 ghost use Rattle.guards_model.specs.Network.{Log};
 ghost use Rattle.guards_model.specs.Rounds.{Steps};
@@ -19,7 +19,7 @@ ghost use Rattle.guards_world.specs.Passing.{world_after, world_carried, world_i
 /// a slot, or take what it carried.
 pub fn slots_are_entered()
     ensures first { (w : WorldValue) (L : Log) (steps : Steps) → StandsForWorld w L → w.done < w.mission.cycles → w.spent ≡ None →
-        InCycle w.mission L [] steps Request 0 0 (world_in w.mission (L ++ []) steps Request 0 w) }
+        InCycle w.mission L [] steps Request (stage_before Request) (stage_before Request) (world_in w.mission (L ++ []) steps Request 0 w) }
     ensures later { (M : MissionValue) (earlier current : Log) (steps : Steps) (slot next : Slot) (carried handed more : ℕ) (w : WorldValue) →
         InCycle M earlier current steps slot carried handed w →
         InCycle M earlier current steps next carried more (world_in M (earlier ++ current) steps next more w) }
@@ -30,17 +30,17 @@ pub fn slots_are_entered()
 /// cycle is a front of its due entries.
 pub fn slots_are_carried()
     ensures goes_on { (M : MissionValue) (earlier current new : Log) (steps : Steps) (slot : Slot) (w : WorldValue) → on_bus slot ≡ true →
-        InCycle M earlier current steps slot (slot_index slot) (slot_index slot) w →
+        InCycle M earlier current steps slot (stage_before slot) (stage_before slot) w →
         AreDueCarries M (earlier ++ current) w.done steps (slot_carries w.done (cycle_at M (earlier ++ current) w.done) slot) new →
         halts w.done (cycle_at M (earlier ++ (current ++ new)) w.done) slot ≡ false →
-        InCycle M earlier (current ++ new) steps slot (suc (slot_index slot)) (slot_index slot) (world_carried (length new) w) }
+        InCycle M earlier (current ++ new) steps slot (stage_after slot) (stage_before slot) (world_carried (length new) w) }
     ensures stops { (M : MissionValue) (earlier current new : Log) (steps : Steps) (slot : Slot) (w : WorldValue) → on_bus slot ≡ true →
-        InCycle M earlier current steps slot (slot_index slot) (slot_index slot) w →
+        InCycle M earlier current steps slot (stage_before slot) (stage_before slot) w →
         AreDueCarries M (earlier ++ current) w.done steps (slot_carries w.done (cycle_at M (earlier ++ current) w.done) slot) new →
         halts w.done (cycle_at M (earlier ++ (current ++ new)) w.done) slot ≡ true →
         IsStopIn M earlier (current ++ new) w.done steps slot }
     ensures breaks_off { (M : MissionValue) (earlier current new : Log) (steps : Steps) (slot : Slot) (w : WorldValue) (few : ℕ) → on_bus slot ≡ true →
-        InCycle M earlier current steps slot (slot_index slot) (slot_index slot) w →
+        InCycle M earlier current steps slot (stage_before slot) (stage_before slot) w →
         AreDueCarries M (earlier ++ current) w.done steps (take few (slot_carries w.done (cycle_at M (earlier ++ current) w.done) slot)) new →
         IsFront M earlier (current ++ new) w.done }
 {}
@@ -49,17 +49,17 @@ pub fn slots_are_carried()
 /// spells, where it counts. The slot's entries alone say it, and between other pairs nothing is received.
 pub fn pieces_arrive()
     ensures each { (M : MissionValue) (earlier current new : Log) (steps : Steps) (slot : Slot) (w : WorldValue) → on_bus slot ≡ true →
-        InCycle M earlier current steps slot (slot_index slot) (slot_index slot) w →
+        InCycle M earlier current steps slot (stage_before slot) (stage_before slot) w →
         AreDueCarries M (earlier ++ current) w.done steps (slot_carries w.done (cycle_at M (earlier ++ current) w.done) slot) new →
         AllZip (Arrives M (cycle_at M (earlier ++ (current ++ new)) w.done).entries)
         (slot_carries w.done (cycle_at M (earlier ++ current) w.done) slot) new }
     ensures slot_alone { (M : MissionValue) (earlier current new : Log) (steps : Steps) (slot : Slot) (w : WorldValue) (from to : ℕ) →
-        on_bus slot ≡ true → InCycle M earlier current steps slot (slot_index slot) (slot_index slot) w →
+        on_bus slot ≡ true → InCycle M earlier current steps slot (stage_before slot) (stage_before slot) w →
         AreDueCarries M (earlier ++ current) w.done steps (slot_carries w.done (cycle_at M (earlier ++ current) w.done) slot) new →
         received_body M (cycle_at M (earlier ++ (current ++ new)) w.done).entries w.done slot from to
         ≡ received_body M new w.done slot from to }
     ensures nothing_else { (M : MissionValue) (earlier current new : Log) (steps : Steps) (slot : Slot) (w : WorldValue) (from to : ℕ) →
-        on_bus slot ≡ true → InCycle M earlier current steps slot (slot_index slot) (slot_index slot) w →
+        on_bus slot ≡ true → InCycle M earlier current steps slot (stage_before slot) (stage_before slot) w →
         AreDueCarries M (earlier ++ current) w.done steps (slot_carries w.done (cycle_at M (earlier ++ current) w.done) slot) new →
         list_any (is_carry_between from to) (slot_carries w.done (cycle_at M (earlier ++ current) w.done) slot) ≡ false →
         received_body M (cycle_at M (earlier ++ (current ++ new)) w.done).entries w.done slot from to ≡ None }
@@ -68,13 +68,13 @@ pub fn pieces_arrive()
 /// Once the rounds are carried, all active channels decide alike, whoever crashes afterwards and wherever the run stops.
 pub fn rounds_settle_decisions()
     ensures { (M : MissionValue) (earlier current : Log) (steps : Steps) (slot : Slot) (handed : ℕ) (w : WorldValue) →
-        InCycle M earlier current steps slot 4 handed w →
+        InCycle M earlier current steps slot (stage_before Tasks) handed w →
         DecideAlike M (cycles_before M (earlier ++ current) w.done) (cycle_at M (earlier ++ current) w.done) }
 {}
 
 /// Where all slots of a cycle are done, and none of them halted, the log with the cycle's entries stands for the world after
 /// it, in which one cycle more is done.
 pub fn worlds_go_on()
-    ensures { (M : MissionValue) (earlier current : Log) (steps : Steps) (w : WorldValue) → InCycle M earlier current steps Switch 9 9 w →
+    ensures { (M : MissionValue) (earlier current : Log) (steps : Steps) (w : WorldValue) → InCycle M earlier current steps Switch (stage_after Switch) (stage_after Switch) w →
         StandsForWorld (world_after M earlier current steps w.done w.carried) (earlier ++ current) }
 {}

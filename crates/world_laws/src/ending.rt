@@ -2,7 +2,7 @@
 ghost use Rattle.std.specs.Prelude.{◌≡◌, ◌<◌, ℕ, ◌++◌, length, Some, Ok, Err};
 ghost use Rattle.std.specs.List.{AllByRecursion};
 ghost use Rattle.guards_model.specs.declared.Slot.TheVariants.{Tasks, Switch};
-ghost use Rattle.guards_model.specs.Slots.{slot_index};
+ghost use Rattle.guards_model.specs.Slots.{slot_index, stage_after};
 ghost use Rattle.guards_model.specs.Network.{Log};
 ghost use Rattle.guards_model.specs.Records.{shown};
 ghost use Rattle.guards_model.specs.Rounds.{Steps};
@@ -21,7 +21,7 @@ ghost use Rattle.guards_world.specs.Passing.{world_after, IsStopIn, IsFront};
 pub fn cycles_finish()
     ensures { (old w new : WorldValue) (earlier current : Log) (steps : Steps) (part : RecordValue) →
         w.mission ≡ old.mission → w.done ≡ old.done →
-        InCycle w.mission earlier current steps Switch 9 9 w →
+        InCycle w.mission earlier current steps Switch (stage_after Switch) (stage_after Switch) w →
         AreFull w.mission (cycles_before w.mission (earlier ++ current) w.done) (cycle_at w.mission (earlier ++ current) w.done) steps →
         shown w.mission.rules.channels w.mission.width (length w.mission.outputs) part
         ≡ cycle_record w.mission steps w.done (cycle_at w.mission (earlier ++ current) w.done) →

@@ -2,7 +2,7 @@
 ghost use Rattle.std.specs.Prelude.{◌≡◌, ◌<◌, true, ℕ, ◌++◌};
 ghost use Rattle.guards_model.specs.declared.Slot.{Slot};
 ghost use Rattle.guards_model.specs.declared.Slot.TheVariants.{Tasks};
-ghost use Rattle.guards_model.specs.Slots.{slot_index};
+ghost use Rattle.guards_model.specs.Slots.{slot_index, stage_after, stage_before};
 ghost use Rattle.guards_model.specs.Channels.{Channel, has};
 ghost use Rattle.guards_model.specs.Missions.{MissionValue};
 ghost use Rattle.guards_model.specs.Modes.{up};
@@ -40,7 +40,7 @@ pub fn later_slots_follow()
 /// Up to the work of the tasks slot nothing in the world or in the log tells the steps of the cycle.
 pub fn steps_come_later()
     ensures { (M : MissionValue) (earlier current : Log) (steps other : Steps) (w : WorldValue) →
-        InCycle M earlier current steps Tasks 5 4 w → InCycle M earlier current other Tasks 5 4 w }
+        InCycle M earlier current steps Tasks (stage_after Tasks) (stage_before Tasks) w → InCycle M earlier current other Tasks (stage_after Tasks) (stage_before Tasks) w }
 {}
 
 /// In each slot that was carried and did not stop the run some active channel is up.

@@ -1,4 +1,5 @@
 use Rattle.guards_model.specs.declared.Slot.TheVariants.{Request}
+use Rattle.guards_model.specs.Slots.{stage_after}
 use Rattle.icn_world.specs.Stages.{IsWithinCycle, IsAtStart}
 use Rattle.icn_world.proofs.Chaining.{without_memory, halted_by, after_step, then_step}
 use Rattle.icn_world.proofs.RoundStages.{nothing_carried, opens_cycle, hears_requests}
@@ -28,5 +29,5 @@ pub returns : goal.returns
 returns g c =
     after_step IsAtStart c.args.self.now c.in_ok-open.ensures.kept
     (opens_cycle c.args.self.now c.open.new.self c.args.disturbance.now c.in_ok-open.ensures.kept c.in_ok-open.ensures.state)
-    (then_step (λ u. IsWithinCycle Request 1 1) tt c.hear.new.self c.hear.ensures.kept
+    (then_step (λ u. IsWithinCycle Request (stage_after Request) (stage_after Request)) tt c.hear.new.self c.hear.ensures.kept
     (hears_requests c.in_ok-arrived.arrived c.carry_to_active.new.self c.hear.new.self c.carry_to_active.new.disturbance c.hear.ensures.kept c.hear.ensures.state) c.in_ok-arrived.ensures)

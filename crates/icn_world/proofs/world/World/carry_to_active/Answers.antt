@@ -1,5 +1,5 @@
 use Rattle.std.proofs.Common.{ap, ◌∙◌}
-use Rattle.guards_model.specs.Slots.{slot_index}
+use Rattle.guards_model.specs.Slots.{slot_index, stage_before}
 use Rattle.guards_world.specs.Worlds.{WorldValue}
 use Rattle.icn_world.specs.Stages.{IsWithinCycle}
 use Rattle.icn_world.proofs.Chaining.{from}
@@ -18,6 +18,6 @@ carry-requires g c =
 
 pub returns : goal.returns
 returns g c =
-    from (IsWithinCycle c.args.slot (slot_index c.args.slot) (slot_index c.args.slot))
+    from (IsWithinCycle c.args.slot (stage_before c.args.slot) (stage_before c.args.slot))
     (carries_to c.args.slot c.on-members.result c.args.self.now c.args.disturbance.now c.requires.on c.requires.among
     (c.on-members.ensures ∙ ap (λ (w : WorldValue). w.switches) c.self.view_is)) c.carry.ensures

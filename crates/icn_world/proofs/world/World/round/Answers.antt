@@ -1,5 +1,5 @@
 use Rattle.std.proofs.Common.{suc, ◌++◌}
-use Rattle.guards_model.specs.Slots.{slot_index}
+use Rattle.guards_model.specs.Slots.{slot_index, stage_after}
 use Rattle.icn_world.specs.Stages.{IsWithinCycle}
 use Rattle.icn_world.proofs.Chaining.{halted_by, then_step}
 use Rattle.icn_world.proofs.RoundStages.{round_on_bus, round_to_active, may_receive, receives_round}
@@ -22,6 +22,6 @@ receive-requires-clause-stands g c =
 
 pub returns : goal.returns
 returns g c =
-    then_step (λ u. IsWithinCycle c.args.slot (suc (slot_index c.args.slot)) (suc (slot_index c.args.slot))) tt c.receive.new.self c.receive.ensures.kept
+    then_step (λ u. IsWithinCycle c.args.slot (stage_after c.args.slot) (stage_after c.args.slot)) tt c.receive.new.self c.receive.ensures.kept
     (receives_round c.args.slot c.in_ok-arrived.arrived c.pass_slot.new.self c.receive.new.self c.pass_slot.new.disturbance c.requires.low c.requires.high
     c.receive.ensures.kept c.receive.ensures.state) c.in_ok-arrived.ensures
