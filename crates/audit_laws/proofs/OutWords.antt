@@ -35,13 +35,17 @@ use Rattle.audit_laws.proofs.RunFits.{has_line}
 
 -- ---- words are words
 
-towards_words : (steps last wanted : List ℤ) → list_all is_word steps ≡ true → list_all is_word last ≡ true → list_all is_word wanted ≡ true → list_all is_word (words_towards steps last wanted) ≡ true
+towards_words : (steps last wanted : List ℤ) → list_all is_word steps ≡ true → list_all is_word last ≡ true →
+    list_all is_word wanted ≡ true → list_all is_word (words_towards steps last wanted) ≡ true
 towards_words steps last wanted hs hl hw =
     all-map is_word (λ k. limited (word_of last k) (word_of wanted k) (word_of steps k)) (numbers_below (length last))
-    (λ k. native_word Ramp (word_of last k) (word_of wanted k) (word_of steps k) (word_in last k hl) (word_in wanted k hw) (word_in steps k hs))
+    (λ k. native_word Ramp (word_of last k) (word_of wanted k) (word_of steps k) (word_in last k hl)
+    (word_in wanted k hw) (word_in steps k hs))
 
 pub length-towards : (steps last wanted : List ℤ) → length (words_towards steps last wanted) ≡ length last
-length-towards steps last wanted = length-map (numbers_below (length last)) (λ k. limited (word_of last k) (word_of wanted k) (word_of steps k)) ∙ length-range_with_len 0 (length last)
+length-towards steps last wanted =
+    length-map (numbers_below (length last)) (λ k. limited (word_of last k) (word_of wanted k) (word_of steps k))
+    ∙ length-range_with_len 0 (length last)
 
 -- the conditions on a mission's actuator, one by one
 record IsDrive (M : MissionValue) (a : ActuatorValue) : Type 0 where
@@ -52,19 +56,27 @@ record IsDrive (M : MissionValue) (a : ActuatorValue) : Type 0 where
 
 drive_of : (M : MissionValue) (a : ActuatorValue) → IsMission M → M.actuator ≡ Some a → IsDrive M a
 drive_of M a mission is =
-    let all : is_actuator (length M.outputs) (Some a) ≡ true = subst (λ o. is_actuator (length M.outputs) o ≡ true) is mission.actuator in
-    let parts = both (length a.steps == length M.outputs && list_all (λ step. is_word step && int_le (pos 0) step) a.steps) (length a.start == length M.outputs && list_all is_word a.start) all in
-    let moving = both (length a.steps == length M.outputs) (list_all (λ step. is_word step && int_le (pos 0) step) a.steps) parts.0 in
+    let all : is_actuator (length M.outputs) (Some a) ≡ true =
+    subst (λ o. is_actuator (length M.outputs) o ≡ true) is mission.actuator in
+    let parts = both (length a.steps == length M.outputs
+    && list_all (λ step. is_word step && int_le (pos 0) step) a.steps)
+    (length a.start == length M.outputs && list_all is_word a.start) all in
+    let moving = both (length a.steps == length M.outputs)
+    (list_all (λ step. is_word step && int_le (pos 0) step) a.steps) parts.0 in
     let first = both (length a.start == length M.outputs) (list_all is_word a.start) parts.1 in
-    let outs = both (within 1 8 (length M.outputs)) (list_all (λ (o : ℕ × ℕ). nat_lt o.0 M.rules.blocks && nat_lt o.1 8) M.outputs) mission.outputs in
+    let outs = both (within 1 8 (length M.outputs))
+    (list_all (λ (o : ℕ × ℕ). nat_lt o.0 M.rules.blocks && nat_lt o.1 8) M.outputs) mission.outputs in
     record {
-      steps = weaken (λ step. is_word step && int_le (pos 0) step) is_word a.steps (λ step h. (both (is_word step) (int_le (pos 0) step) h).0) moving.1;
+      steps = weaken (λ step. is_word step && int_le (pos 0) step) is_word a.steps
+          (λ step h. (both (is_word step) (int_le (pos 0) step) h).0) moving.1;
       many = eqb-true (length a.start) (length M.outputs) first.0;
       start = first.1;
       some = leb-true 1 (length M.outputs) (both (nat_le 1 (length M.outputs)) (nat_le (length M.outputs) 8) outs.0).0;
     }
 
-outputs_words : (M : MissionValue) (L : Log) (n : ℕ) → IsMission M → n < M.cycles → (os : List (ℕ × ℕ)) → list_all is_word (map (λ (o : ℕ × ℕ). context_word (next_cycle M L (cycles_before M L n)).ideal_context o.0 o.1) os) ≡ true
+outputs_words : (M : MissionValue) (L : Log) (n : ℕ) → IsMission M → n < M.cycles → (os : List (ℕ × ℕ)) →
+    list_all is_word (map (λ (o : ℕ × ℕ). context_word (next_cycle M L (cycles_before M L n)).ideal_context o.0 o.1) os)
+    ≡ true
 outputs_words M L n mission early [] = refl
 outputs_words M L n mission early (o ∷ os) =
     let ctx = (next_cycle M L (cycles_before M L n)).ideal_context in
@@ -78,17 +90,20 @@ module _ (M : MissionValue) (a : ActuatorValue) (mission : IsMission M) (is : M.
   outs_words : (n : ℕ) → n ≤ M.cycles → list_all is_word (outs n) ≡ true
   outs_words zero early = (drive_of M a mission is).start
   outs_words (suc n) early =
-      towards_words a.steps (outs n) (output_words M (next_cycle M L (cycles_before M L n)).ideal_context) (drive_of M a mission is).steps
+      towards_words a.steps (outs n) (output_words M (next_cycle M L (cycles_before M L n)).ideal_context)
+      (drive_of M a mission is).steps
       (outs_words n (omega arith)) (outputs_words M L n mission early M.outputs)
 
   outs_many : (n : ℕ) → length (outs n) ≡ length a.start
   outs_many zero = refl
-  outs_many (suc n) = length-towards a.steps (outs n) (output_words M (next_cycle M L (cycles_before M L n)).ideal_context) ∙ outs_many n
+  outs_many (suc n) = length-towards a.steps (outs n)
+      (output_words M (next_cycle M L (cycles_before M L n)).ideal_context) ∙ outs_many n
 
   pub outs_form : (n : ℕ) → n ≤ M.cycles → some_that is_word (outs n) ≡ true
   outs_form n early =
       and_true (not (is_empty (outs n))) (list_all is_word (outs n))
-      (not_empty (outs n) (omega (arith, outs_many n, (drive_of M a mission is).many, (drive_of M a mission is).some))) (outs_words n early)
+      (not_empty (outs n) (omega (arith, outs_many n, (drive_of M a mission is).many, (drive_of M a mission is).some)))
+      (outs_words n early)
 
 -- ---- the printed votes
 
@@ -98,12 +113,18 @@ present_some (w ∷ words) = ap (λ ws. w ∷ ws) (present_some words)
 
 first_active : (e : Cycle) (some : HasLine e) → has e.active some.first ≡ true
 first_active e some =
-    let there : has (channels_running_in Switch e) some.first ≡ true = ap (λ ps. has ps some.first) some.run ∙ or_left (some.first == some.first) (has some.others some.first) (number_same some.first) in
-    (both (is_up (mode_in e some.first Switch)) (has e.active some.first) (sym (has-filter (λ q. is_up (mode_in e q Switch)) e.active some.first) ∙ there)).1
+    let there : has (channels_running_in Switch e) some.first ≡ true =
+    ap (λ ps. has ps some.first) some.run
+    ∙ or_left (some.first == some.first) (has some.others some.first) (number_same some.first) in
+    (both (is_up (mode_in e some.first Switch)) (has e.active some.first)
+    (sym (has-filter (λ q. is_up (mode_in e q Switch)) e.active some.first) ∙ there)).1
 
 -- the first line of a cycle has the output words of the ideal context as its votes
-pub first_votes : (M : MissionValue) (L : Log) (histories : Histories) (n : ℕ) → IsMission M → Agrees M (cycles_before M L n) (next_cycle M L (cycles_before M L n)) →
-    voted_words (first_line (cycle_record M (latest_steps histories) (length (cycles_before M L n)) (next_cycle M L (cycles_before M L n)))).votes ≡ output_words M (next_cycle M L (cycles_before M L n)).ideal_context
+pub first_votes : (M : MissionValue) (L : Log) (histories : Histories) (n : ℕ) → IsMission M →
+    Agrees M (cycles_before M L n) (next_cycle M L (cycles_before M L n)) →
+    voted_words (first_line (cycle_record M (latest_steps histories) (length (cycles_before M L n))
+    (next_cycle M L (cycles_before M L n)))).votes
+    ≡ output_words M (next_cycle M L (cycles_before M L n)).ideal_context
 first_votes M L histories n mission agrees =
     let past : Past = cycles_before M L n in
     let e : Cycle = next_cycle M L past in

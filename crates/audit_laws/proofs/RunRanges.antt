@@ -47,20 +47,30 @@ or_zero false n h = refl
 multiplied : (n keep : ℕ) → n ≤ count_cap → keep ≤ 65536 → (n * keep) / 65536 ≤ count_cap
 multiplied n keep h k = div-le_of_le-mul 65536 (omega (arith, mul-le-mul_left n k, h))
 
-step_counts : (law : Law) (keep decrement : ℕ) (errant : Bool) (n : ℕ) → keep ≤ 65536 → is_count n ≡ true → is_count (count_step law keep decrement errant n) ≡ true
+step_counts : (law : Law) (keep decrement : ℕ) (errant : Bool) (n : ℕ) → keep ≤ 65536 → is_count n ≡ true →
+    is_count (count_step law keep decrement errant n) ≡ true
 unfolding is_count
 step_counts law keep decrement true n small h = le-leb (min (n + 65536) count_cap) count_cap (omega arith)
-step_counts Multiply keep decrement false n small h = le-leb ((n * keep) / 65536) count_cap (multiplied n keep (leb-true n count_cap h) small)
-step_counts Subtract keep decrement false n small h = le-leb (n - decrement) count_cap (omega (arith, leb-true n count_cap h))
+step_counts Multiply keep decrement false n small h =
+    le-leb ((n * keep) / 65536) count_cap (multiplied n keep (leb-true n count_cap h) small)
+step_counts Subtract keep decrement false n small h =
+    le-leb (n - decrement) count_cap (omega (arith, leb-true n count_cap h))
 
 module _ (M : MissionValue) (L : Log) (mission : IsMission M) where
-  stepped : (active judged : ChannelSet) (base : List ℕ) → list_all is_count base ≡ true → list_all is_count (counts_of M.rules.law M.rules.keep M.rules.decrement active judged base) ≡ true
+  stepped : (active judged : ChannelSet) (base : List ℕ) → list_all is_count base ≡ true →
+      list_all is_count (counts_of M.rules.law M.rules.keep M.rules.decrement active judged base) ≡ true
   stepped active judged base h =
-      table_counts (λ q. cond (has active q) (count_step M.rules.law M.rules.keep M.rules.decrement (has judged q) (place_or base q 0)) 0)
-      (λ q. or_zero (has active q) (count_step M.rules.law M.rules.keep M.rules.decrement (has judged q) (place_or base q 0))
-      (step_counts M.rules.law M.rules.keep M.rules.decrement (has judged q) (place_or base q 0) (ranges M mission).keep (count_at base q h)))
+      table_counts (λ q. cond (has active q)
+      (count_step M.rules.law M.rules.keep M.rules.decrement (has judged q) (place_or base q 0)) 0)
+      (λ q. or_zero (has active q)
+      (count_step M.rules.law M.rules.keep M.rules.decrement (has judged q) (place_or base q 0))
+      (step_counts M.rules.law M.rules.keep M.rules.decrement (has judged q) (place_or base q 0) (ranges M mission).keep
+      (count_at base q h)))
 
-  counts-is : (past : Past) → (next_cycle M L past).counts ≡ counts_of M.rules.law M.rules.keep M.rules.decrement (next_cycle M L past).active (next_cycle M L past).judged (base_counts M past)
+  counts-is : (past : Past) →
+      (next_cycle M L past).counts
+      ≡ counts_of M.rules.law M.rules.keep M.rules.decrement (next_cycle M L past).active (next_cycle M L past).judged
+      (base_counts M past)
   unfolding cycle_from decision_of cycle_start_of agreement_of
   counts-is past = refl
 
@@ -72,11 +82,13 @@ module _ (M : MissionValue) (L : Log) (mission : IsMission M) where
       let e = next_cycle M L past in
       table_counts (λ q. cond (has (active_set M (e ∷ past)) q && not (has e.joined q)) (place_or e.counts q 0) 0)
       (λ q. or_zero (has (active_set M (e ∷ past)) q && not (has e.joined q)) (place_or e.counts q 0)
-      (count_at e.counts q (subst (λ cs. list_all is_count cs ≡ true) (sym (counts-is past)) (stepped e.active e.judged (base_counts M past) (base_good n)))))
+      (count_at e.counts q (subst (λ cs. list_all is_count cs ≡ true) (sym (counts-is past))
+      (stepped e.active e.judged (base_counts M past) (base_good n)))))
 
   pub counts_small : (n : ℕ) → list_all is_small (next_cycle M L (cycles_before M L n)).counts ≡ true
   unfolding is_count
   counts_small n =
       let e = next_cycle M L (cycles_before M L n) in
       weaken is_count is_small e.counts (λ k h. small-is k (omega (arith, leb-true k count_cap h)))
-      (subst (λ cs. list_all is_count cs ≡ true) (sym (counts-is (cycles_before M L n))) (stepped e.active e.judged (base_counts M (cycles_before M L n)) (base_good n)))
+      (subst (λ cs. list_all is_count cs ≡ true) (sym (counts-is (cycles_before M L n)))
+      (stepped e.active e.judged (base_counts M (cycles_before M L n)) (base_good n)))

@@ -7,8 +7,8 @@ use Rattle.guards_runs.specs.Promises.{Agrees}
 use Rattle.guards_runs.specs.Report.{latest_steps, earlier_steps}
 use Rattle.guards_world.specs.WorldCycle.{AreFull}
 
--- All channels agree in each of some cycles, of which the latest stands first, and the steps of each channel that worked in
--- it are full.
+-- All channels agree in each of some cycles, of which the latest stands first, and the steps of each channel that
+-- worked in it are full.
 abbrev pub AreSoundlyDone : MissionValue → Histories → Past → Type 0
 AreSoundlyDone M histories [] = Unit {0}
 AreSoundlyDone M histories (e ∷ past) =

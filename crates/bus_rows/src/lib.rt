@@ -1,4 +1,5 @@
-//! Frames as bytes, buses, fault scripts, the traffic of single slots and moves of a gate, as tests of the crates that it stands on.
+//! Frames as bytes, buses, fault scripts, the traffic of single slots and moves of a gate, as tests of the crates that
+//! it stands on.
 #![tactic(auto)]
 
 #[cfg(test)]

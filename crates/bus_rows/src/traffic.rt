@@ -1,5 +1,5 @@
-//! The traffic of single slots over both kinds of bus. What owns frames or pieces has one way out, or drops them by name: each place
-//! where they may end costs the proof seconds.
+//! The traffic of single slots over both kinds of bus. What owns frames or pieces has one way out, or drops them by
+//! name: each place where they may end costs the proof seconds.
 use context_blocks::Block;
 use guards_base::{Ballot, Bytes, Chan, ChanSet, Law, Slot};
 use icn_bus::{Act, Acts, Bus, Entry, MemBus, Rule, ScriptBus};
@@ -21,8 +21,8 @@ const FORMAT: Format = Format {
     outputs: 1,
 };
 
-/// What came of a slot: whether each frame had a spelling, the receivers of the entries, in order and as digits, the mask of those
-/// who are charged, and how many rows hold of what is received.
+/// What came of a slot: whether each frame had a spelling, the receivers of the entries, in order and as digits, the
+/// mask of those who are charged, and how many rows hold of what is received.
 #[derive(Clone, Copy, PartialEq, Eq, Debug)]
 struct Told {
     sent: bool,
@@ -155,8 +155,8 @@ fn push_forged(alloc: Global, acts: &mut Acts, piece: &[u8]) -> Result<(), Alloc
     acts.push(Some(Act::Forge(piece)))
 }
 
-/// Of channel 0's vote the second piece is lost; of channel 1's the first one is channel 0's vote and the second one votes
-/// for 9; channel 2's are as sent; of channel 3's the first one is no frame.
+/// Of channel 0's vote the second piece is lost; of channel 1's the first one is channel 0's vote and the second one
+/// votes for 9; channel 2's are as sent; of channel 3's the first one is no frame.
 fn push_acts(alloc: Global, acts: &mut Acts) -> Result<(), AllocError> {
     acts.push(None)?;
     acts.push(Some(Act::Lose))?;

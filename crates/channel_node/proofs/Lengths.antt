@@ -19,7 +19,8 @@ length-range a (suc n) = ap suc (length-range (a + 1) n)
 
 length-copies : (copies : List CopyValue) (ctx : ContextValue) → length (with_copies copies ctx) ≡ length ctx
 length-copies [] ctx = refl
-length-copies (copy ∷ copies) ctx = length-copies copies (slice_set ctx copy.block copy.words) ∙ length-set ctx copy.block copy.words
+length-copies (copy ∷ copies) ctx =
+    length-copies copies (slice_set ctx copy.block copy.words) ∙ length-set ctx copy.block copy.words
 
 -- ---- the sweep
 
@@ -29,8 +30,12 @@ restarted true blocks c r h = length-replicate blocks zero_block
 restarted false blocks c r h = h
 
 filled : (own : Bool) (blocks start : ℕ) (frames : List SweepValue) (r : ReplicaValue) → length r.blocks ≡ blocks →
-    length (if own then record { have = r.have; blocks = map (voted_block start frames r.blocks) (numbers_below blocks) } else r).blocks ≡ blocks
-filled true blocks start frames r h = length-map (numbers_below blocks) (voted_block start frames r.blocks) ∙ length-range 0 blocks
+    length (if own then record {
+      have = r.have;
+      blocks = map (voted_block start frames r.blocks) (numbers_below blocks);
+    } else r).blocks ≡ blocks
+filled true blocks start frames r h =
+    length-map (numbers_below blocks) (voted_block start frames r.blocks) ∙ length-range 0 blocks
 filled false blocks start frames r h = h
 
 for_start : (blocks c : ℕ) (frames : List SweepValue) (start : Option ℕ) (r : ReplicaValue) → length r.blocks ≡ blocks →
@@ -42,13 +47,16 @@ for_start blocks c frames (Some start) r h =
 
 pub length-swept : (blocks c : ℕ) (frames : List SweepValue) (j : JoinerValue) → length j.replica.blocks ≡ blocks →
     length (after_sweep_frames blocks c frames j).replica.blocks ≡ blocks
-length-swept blocks c frames j h = for_start blocks c frames (majority (λ a b. a == b) (map (λ (f : SweepValue). f.start) frames)) j.replica h
+length-swept blocks c frames j h =
+    for_start blocks c frames (majority (λ a b. a == b) (map (λ (f : SweepValue). f.start) frames)) j.replica h
 
 -- ---- the final content
 
-length-with : (content : Option FinalValue) (r : ReplicaValue) → length (replica_with content r).blocks ≡ length r.blocks
+length-with : (content : Option FinalValue) (r : ReplicaValue) →
+    length (replica_with content r).blocks ≡ length r.blocks
 length-with None r = refl
 length-with (Some content) r = length-copies content.copies r.blocks
 
-pub length-final : (frames : List FinalValue) (r : ReplicaValue) → length (after_final frames r).blocks ≡ length r.blocks
+pub length-final : (frames : List FinalValue) (r : ReplicaValue) →
+    length (after_final frames r).blocks ≡ length r.blocks
 length-final frames r = length-with (final_taken frames r) r

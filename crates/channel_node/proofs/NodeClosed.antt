@@ -6,8 +6,10 @@ use Rattle.guards_nodes.specs.NodeStates.{NodeValue, running, RunningValue, Deci
 use Rattle.guards_nodes.specs.NodeSteps.{plan_in, after_close}
 use Rattle.guards_nodes.specs.NodeCalls.{DoesClose}
 
-pub closes : (M : MissionValue) (c : ℕ) (old : NodeValue) (part new : RunningValue) (decided : DecidedValue) (closed : ClosedValue) →
-    old.state ≡ running part → part.progress.decided ≡ Some decided → new ≡ after_close M.rules (written_blocks M c) decided part →
+pub closes : (M : MissionValue) (c : ℕ) (old : NodeValue) (part new : RunningValue) (decided : DecidedValue)
+    (closed : ClosedValue) →
+    old.state ≡ running part → part.progress.decided ≡ Some decided →
+    new ≡ after_close M.rules (written_blocks M c) decided part →
     closed ≡ closed_by M.rules.last (plan_in M.rules part.held) (written_blocks M c) part.held.control →
     DoesClose M c old (record { channel = old.channel; rules = old.rules; state = running new }) closed
 closes M c old part new decided closed was had is answer =

@@ -12,15 +12,19 @@ use Rattle.guards_nodes.specs.NodeStates.{RunningValue, DecidedValue}
 use Rattle.guards_nodes.specs.NodeSteps.{plan_in, HasWorked}
 use Rattle.guards_nodes.proofs.PaddedInputs.{whole_same, replay_same}
 
-length-written : (w : Option WriteValue) (ctx : ContextValue) (inputs : List ℤ) (c : ℕ) → length (written_if w ctx inputs c) ≡ length ctx
+length-written : (w : Option WriteValue) (ctx : ContextValue) (inputs : List ℤ) (c : ℕ) →
+    length (written_if w ctx inputs c) ≡ length ctx
 length-written None ctx inputs c = refl
 length-written (Some w) ctx inputs c = length-set ctx w.block (replaced w.set (block_at ctx w.block) ctx inputs c)
 
-length-applied : (row : List WriteValue) (ctx : ContextValue) (c : ℕ) (inputs : List ℤ) (k : ℕ) → length (apply row ctx c inputs k) ≡ length ctx
+length-applied : (row : List WriteValue) (ctx : ContextValue) (c : ℕ) (inputs : List ℤ) (k : ℕ) →
+    length (apply row ctx c inputs k) ≡ length ctx
 length-applied row ctx c inputs zero = refl
-length-applied row ctx c inputs (suc k) = length-written (slice_get row k) (apply row ctx c inputs k) inputs c ∙ length-applied row ctx c inputs k
+length-applied row ctx c inputs (suc k) =
+    length-written (slice_get row k) (apply row ctx c inputs k) inputs c ∙ length-applied row ctx c inputs k
 
-pub length-whole : (row : List WriteValue) (ctx : ContextValue) (c : ℕ) (inputs : List ℤ) → length (whole row ctx c inputs) ≡ length ctx
+pub length-whole : (row : List WriteValue) (ctx : ContextValue) (c : ℕ) (inputs : List ℤ) →
+    length (whole row ctx c inputs) ≡ length ctx
 length-whole row ctx c inputs = length-applied row ctx c inputs (length row)
 
 -- the round of a running channel with these four inputs and this plan
@@ -30,13 +34,19 @@ round_of row ctx c inputs plan = record { context = ctx; row = row; cycle = c; i
 -- a running channel with another context and with what its round left
 abbrev pub worked_with : RunningValue → ContextValue → ℕ → List Actor → List CopyValue → RunningValue
 worked_with old ctx c steps copies =
-    record old { held = record old.held { context = ctx }; progress = record old.progress { worked = Some (record { cycle = c; steps = steps; copies = copies }) } }
+    record old {
+      held = record old.held { context = ctx };
+      progress = record old.progress { worked = Some (record { cycle = c; steps = steps; copies = copies }) };
+    }
 
-pub works : (rules : RulesValue) (row : List WriteValue) (c : ℕ) (old : RunningValue) (d : DecidedValue) (four : List ℤ) (plan : List ℕ)
+pub works : (rules : RulesValue) (row : List WriteValue) (c : ℕ) (old : RunningValue) (d : DecidedValue) (four : List ℤ)
+    (plan : List ℕ)
     (steps : List Actor) (ctx : ContextValue) (copies : List CopyValue) →
-    old.progress.decided ≡ Some d → four ≡ d.inputs ++ replicate (4 - length d.inputs) (pos 0) → plan ≡ plan_in rules old.held →
+    old.progress.decided ≡ Some d → four ≡ d.inputs ++ replicate (4 - length d.inputs) (pos 0) →
+    plan ≡ plan_in rules old.held →
     IsFull (round_of row old.held.context c four plan) steps → ctx ≡ whole row old.held.context c four →
-    copies ≡ copies_of_replay (round_of row old.held.context c four plan) steps → HasWorked rules row c old (worked_with old ctx c steps copies)
+    copies ≡ copies_of_replay (round_of row old.held.context c four plan) steps →
+    HasWorked rules row c old (worked_with old ctx c steps copies)
 works rules row c old d four plan steps ctx copies had inputs planned full after made =
     let n : ℕ = 4 - length d.inputs in
     let context : ctx ≡ whole row old.held.context c d.inputs =

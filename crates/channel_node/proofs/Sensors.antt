@@ -15,14 +15,16 @@ length_sensor M p c mission low =
     eqb-true (length (sensor M p c)) M.width
     (both (length (sensor M p c) == M.width) (list_all is_word (sensor M p c)) (sensor_words M p c mission low)).0
 
-is_padded : (words : List ℤ) (width : ℕ) → length words ≡ width → 1 ≤ width → width ≤ 4 → IsPadded 4 width (padded 4 words)
+is_padded : (words : List ℤ) (width : ℕ) → length words ≡ width → 1 ≤ width → width ≤ 4 →
+    IsPadded 4 width (padded 4 words)
 is_padded words width long some few =
     record {
       whole = length-append words (replicate (4 - length words) (pos 0))
           ∙ ap (λ n. length words + n) (length-replicate (4 - length words) (pos 0)) ∙ omega (arith, long, few);
       least = some;
       most = few;
-      unused = ap (λ n. drop n (padded 4 words)) (sym long) ∙ drop-append_seam words (replicate (4 - length words) (pos 0))
+      unused = ap (λ n. drop n (padded 4 words)) (sym long)
+          ∙ drop-append_seam words (replicate (4 - length words) (pos 0))
           ∙ ap (λ n. replicate (4 - n) (pos 0)) long;
     }
 
@@ -31,10 +33,12 @@ pub record ArePadded (M : MissionValue) (p c : ℕ) : Type 0 where
   pub padded_are : IsPadded 4 M.width (padded 4 (sensor M p c))
   pub used : take M.width (padded 4 (sensor M p c)) ≡ sensor M p c
 
-pub padded_sensor : (M : MissionValue) (p c : ℕ) → IsMission M → p < M.rules.channels → 1 ≤ M.width → M.width ≤ 4 → ArePadded M p c
+pub padded_sensor : (M : MissionValue) (p c : ℕ) → IsMission M → p < M.rules.channels → 1 ≤ M.width → M.width ≤ 4 →
+    ArePadded M p c
 padded_sensor M p c mission low some few =
     let long : length (sensor M p c) ≡ M.width = length_sensor M p c mission low in
     record {
       padded_are = is_padded (sensor M p c) M.width long some few;
-      used = ap (λ n. take n (padded 4 (sensor M p c))) (sym long) ∙ take-append_seam (sensor M p c) (replicate (4 - length (sensor M p c)) (pos 0));
+      used = ap (λ n. take n (padded 4 (sensor M p c))) (sym long)
+          ∙ take-append_seam (sensor M p c) (replicate (4 - length (sensor M p c)) (pos 0));
     }

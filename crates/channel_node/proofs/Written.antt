@@ -31,32 +31,41 @@ in_set ws n b few h =
     let low : b < 0 + n = there_below 0 n b h in
     kept_test (has ws) 256 b (below_there 256 b (omega (arith, low)))
 
-noted_alike : (ws written : List ℕ) (tags : TagsValue) → written ≡ blocks_where (has ws) → tags.blocks ≤ 256 → tags_noted written tags ≡ tags_noted ws tags
+noted_alike : (ws written : List ℕ) (tags : TagsValue) → written ≡ blocks_where (has ws) → tags.blocks ≤ 256 →
+    tags_noted written tags ≡ tags_noted ws tags
 unfolding tags_noted
 noted_alike ws written tags same few =
     ap (λ xs. record { blocks = tags.blocks; remaining = tags.remaining; cursor = tags.cursor; written = xs })
-    (filter_alike (λ b. has written b || has tags.written b) (λ b. has ws b || has tags.written b) (numbers_below tags.blocks)
+    (filter_alike (λ b. has written b || has tags.written b) (λ b. has ws b || has tags.written b)
+    (numbers_below tags.blocks)
     (λ b h. ap (λ x. x || has tags.written b) (ap (λ xs. has xs b) same ∙ in_set ws tags.blocks b few h)))
 
-after_alike : (planned ws written : List ℕ) (blocks : ℕ) (s : Option SweepingValue) → written ≡ blocks_where (has ws) → blocks ≤ 256 → tags_fit blocks s ≡ true →
+after_alike : (planned ws written : List ℕ) (blocks : ℕ) (s : Option SweepingValue) → written ≡ blocks_where (has ws) →
+    blocks ≤ 256 → tags_fit blocks s ≡ true →
     sweeping_after planned written s ≡ sweeping_after planned ws s
 after_alike planned ws written blocks None same few h = refl
 after_alike planned ws written blocks (Some s) same few h =
     let fit : s.tags.blocks ≡ blocks = eqb-true s.tags.blocks blocks h in
     rw (noted_alike ws written s.tags same (omega (arith, fit))) refl
 
-pub close_alike : (last : ℕ) (removed planned ws written : List ℕ) (blocks : ℕ) (k : ControlValue) → written ≡ blocks_where (has ws) → blocks ≤ 256 → tags_fit blocks k.sweeping ≡ true →
+pub close_alike : (last : ℕ) (removed planned ws written : List ℕ) (blocks : ℕ) (k : ControlValue) →
+    written ≡ blocks_where (has ws) → blocks ≤ 256 → tags_fit blocks k.sweeping ≡ true →
     control_closed last removed planned written k ≡ control_closed last removed planned ws k
 unfolding control_closed
-close_alike last removed planned ws written blocks k same few h = rw (after_alike planned ws written blocks k.sweeping same few h) refl
+close_alike last removed planned ws written blocks k same few h =
+    rw (after_alike planned ws written blocks k.sweeping same few h) refl
 
-pub answer_alike : (last : ℕ) (planned ws written : List ℕ) (blocks : ℕ) (k : ControlValue) → written ≡ blocks_where (has ws) → blocks ≤ 256 → tags_fit blocks k.sweeping ≡ true →
+pub answer_alike : (last : ℕ) (planned ws written : List ℕ) (blocks : ℕ) (k : ControlValue) →
+    written ≡ blocks_where (has ws) → blocks ≤ 256 → tags_fit blocks k.sweeping ≡ true →
     closed_by last planned written k ≡ closed_by last planned ws k
 unfolding closed_by
-answer_alike last planned ws written blocks k same few h = rw (after_alike planned ws written blocks k.sweeping same few h) refl
+answer_alike last planned ws written blocks k same few h =
+    rw (after_alike planned ws written blocks k.sweeping same few h) refl
 
-pub after_close_alike : (rules : RulesValue) (ws written : List ℕ) (d : DecidedValue) (r : RunningValue) → written ≡ blocks_where (has ws) →
-    length r.context ≤ 256 → tags_fit (length r.context) r.control.sweeping ≡ true → after_close rules written d r ≡ after_close rules ws d r
+pub after_close_alike : (rules : RulesValue) (ws written : List ℕ) (d : DecidedValue) (r : RunningValue) →
+    written ≡ blocks_where (has ws) →
+    length r.context ≤ 256 → tags_fit (length r.context) r.control.sweeping ≡ true →
+    after_close rules written d r ≡ after_close rules ws d r
 after_close_alike rules ws written d r same few h =
     rw (
       close_alike rules.last d.removed (plan_in rules r.held) ws written (length r.context) r.control same few h,
@@ -64,5 +73,6 @@ after_close_alike rules ws written d r same few h =
     ) refl
 
 -- an answer by its parts
-pub answered : (a b : ClosedValue) → a.joined ≡ b.joined → a.start ≡ b.start → a.remaining ≡ b.remaining → a.rest ≡ b.rest → a ≡ b
+pub answered : (a b : ClosedValue) → a.joined ≡ b.joined → a.start ≡ b.start → a.remaining ≡ b.remaining →
+    a.rest ≡ b.rest → a ≡ b
 answered a b joined start remaining rest = rw (joined, start, remaining, rest) refl

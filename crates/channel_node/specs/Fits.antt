@@ -22,7 +22,8 @@ abbrev pub is_idle : Option ControlValue → Bool
 is_idle None = true
 is_idle (Some k) = is_none k.sweeping
 
-pub record AreRunningParts (blocks : ℕ) (sweeping : Option SweepingValue) (closed : Option ClosedValue) (heard hearing : List ℕ) : Type 0 where
+pub record AreRunningParts (blocks : ℕ) (sweeping : Option SweepingValue) (closed : Option ClosedValue)
+    (heard hearing : List ℕ) : Type 0 where
   pub tags : tags_fit blocks sweeping ≡ true
   pub rest : rest_fits blocks closed ≡ true
   pub heard_codes : are_codes heard ≡ true

@@ -37,4 +37,5 @@ has_places me active width t = t.me == me && t.width == width && nat_le (length 
 -- the word of a channel, where it is a member
 abbrev pub word_from : Received → ExchangeTreeValue → Channel → Option SourceValue
 word_from received t s =
-    if has t.active s then resolved_value t.active t.width t.me t.own received (tolerated_faults t.active) (s ∷ []) else None
+    if has t.active s then resolved_value t.active t.width t.me t.own received (tolerated_faults t.active) (s ∷ [])
+    else None

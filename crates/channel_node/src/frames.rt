@@ -13,7 +13,12 @@ use std::alloc::{AllocError, Global};
 impl Node {
     // The frame of a body.
     fn frame(&self, cycle: u32, body: Body) -> Frame
-        ensures { result ≡ record { version = self.now.rules.version; sender = self.now.channel; cycle = cycle; body = view_body body } }
+        ensures { result ≡ record {
+          version = self.now.rules.version;
+          sender = self.now.channel;
+          cycle = cycle;
+          body = view_body body;
+        } }
     {
         Frame {
             version: self.rules.version,

@@ -54,7 +54,11 @@ impl Model for Worked {
 
     ghost use Rattle.sweep_round.specs.Trails.{trail_cycle, trail_steps};
 
-    ghost view = { λ w. record { cycle = trail_cycle w.history; steps = trail_steps w.history; copies = w.copies.items } };
+    ghost view = { λ w. record {
+      cycle = trail_cycle w.history;
+      steps = trail_steps w.history;
+      copies = w.copies.items;
+    } };
 }
 
 /// What closing the cycle answered.
@@ -91,7 +95,12 @@ impl Ended {
 
     /// Keeps an answer.
     pub fn of(closed: &Closed) -> Ended
-        ensures { result ≡ record { joined = closed.now.joined; start = closed.now.start; remaining = closed.now.remaining; rest = closed.now.rest } }
+        ensures { result ≡ record {
+          joined = closed.now.joined;
+          start = closed.now.start;
+          remaining = closed.now.remaining;
+          rest = closed.now.rest;
+        } }
     {
         Ended {
             joined: closed.joined,

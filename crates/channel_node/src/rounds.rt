@@ -41,10 +41,12 @@ impl Node {
     /// Forms the source word of a cycle and begins the exchange, where it runs. For want of memory it stays as it is.
     pub fn source(&mut self, alloc: Global, mission: &Mission, cycle: u32) -> Result<(), AllocError>
         requires rules { mission.now.rules ≡ self.old.rules }
-        requires mine { (r : RunningValue) → self.old.state ≡ running r → IsTrue (has r.control.active self.old.channel) }
+        requires mine { (r : RunningValue) → self.old.state ≡ running r →
+            IsTrue (has r.control.active self.old.channel) }
         requires some { (r : RunningValue) → self.old.state ≡ running r → 3 ≤ length r.control.active }
         ensures state { OnOk result (self.new ≡
-            changed (after_source self.old.channel mission.now.width (sensor mission.now self.old.channel cycle)) self.old) }
+            changed (after_source self.old.channel mission.now.width (sensor mission.now self.old.channel cycle))
+            self.old) }
         ensures refused { OnErr result (self.new ≡ self.old) }
     {
         let me = self.channel;
@@ -57,8 +59,10 @@ impl Node {
 
     /// Keeps what was received in a round from another active channel, where it runs.
     pub fn receive(&mut self, round: u8, from: Chan, frame: Option<&Exchange>)
-        requires member { (r : RunningValue) (t : ExchangeTreeValue) → self.old.state ≡ running r → r.tree ≡ Some t → IsTrue (has t.active from) }
-        requires another { (r : RunningValue) (t : ExchangeTreeValue) → self.old.state ≡ running r → r.tree ≡ Some t → from ≢ t.me }
+        requires member { (r : RunningValue) (t : ExchangeTreeValue) → self.old.state ≡ running r → r.tree ≡ Some t →
+            IsTrue (has t.active from) }
+        requires another { (r : RunningValue) (t : ExchangeTreeValue) → self.old.state ≡ running r → r.tree ≡ Some t →
+            from ≢ t.me }
         requires low { 1 ≤ round }
         requires high { (r : RunningValue) (t : ExchangeTreeValue) → self.old.state ≡ running r → r.tree ≡ Some t →
             round ≤ tolerated_faults t.active + 1 }

@@ -34,7 +34,17 @@ impl Model for Running {
 
     ghost Value = { RunningValue };
 
-    ghost view = { λ r. record { held = record { context = r.context; control = r.control; accused = r.accused; heard = r.heard }; progress = record { hearing = r.hearing; tree = r.tree; decided = r.decided; worked = r.worked; closed = r.closed } } };
+    ghost view = { λ r. record {
+      held =
+          record { context = r.context; control = r.control; accused = r.accused; heard = r.heard };
+      progress = record {
+        hearing = r.hearing;
+        tree = r.tree;
+        decided = r.decided;
+        worked = r.worked;
+        closed = r.closed;
+      };
+    } };
 
     ghost invariant = { λ r. AreRunningParts (length r.context) r.control.sweeping r.closed r.heard r.hearing };
 }

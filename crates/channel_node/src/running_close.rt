@@ -69,7 +69,8 @@ impl Running {
     pub fn close_cycle(&mut self, rules: &Rules, written: &BlockSet) -> Closed
         requires rules { is_rules rules.now ≡ true }
         requires decided { (d : DecidedValue) × (self.old.decided ≡ Some d) }
-        ensures state { (d : DecidedValue) (ws : List ℕ) → self.old.decided ≡ Some d → written.now ≡ blocks_where (has ws) →
+        ensures state { (d : DecidedValue) (ws : List ℕ) → self.old.decided ≡ Some d →
+            written.now ≡ blocks_where (has ws) →
             self.new ≡ after_close rules.now ws d self.old }
         ensures answer { (ws : List ℕ) → written.now ≡ blocks_where (has ws) →
             closed_value result ≡ closed_by rules.now.last (plan_in rules.now self.old.held) ws self.old.control }

@@ -18,8 +18,8 @@ use icn_frames::Exchange;
 use std::alloc::{AllocError, Global};
 
 impl Running {
-    /// Forms the source word of these sensor words, of which those past the width are 0, and begins the exchange. It takes
-    /// no memory where the places of the last exchange suffice.
+    /// Forms the source word of these sensor words, of which those past the width are 0, and begins the exchange. It
+    /// takes no memory where the places of the last exchange suffice.
     pub fn source(
         &mut self,
         alloc: Global,
@@ -32,7 +32,8 @@ impl Running {
         requires padded { IsPadded 4 width sensors }
         ensures state { OnOk result (self.new ≡ after_source me width (take width sensors) self.old) }
         ensures refused { OnErr result (self.new ≡ self.old) }
-        ensures kept { (t : ExchangeTreeValue) → self.old.tree ≡ Some t → has_places me self.old.control.active width t ≡ true → IsOk result }
+        ensures kept { (t : ExchangeTreeValue) → self.old.tree ≡ Some t →
+            has_places me self.old.control.active width t ≡ true → IsOk result }
     {
         let own = SourceWord {
             width,

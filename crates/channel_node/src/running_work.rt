@@ -29,8 +29,8 @@ impl Running {
         }
     }
 
-    /// Does the writes of a cycle and the copies of its plan, by two workers under the lock, in whatever order. For want
-    /// of memory the channel comes back as it was.
+    /// Does the writes of a cycle and the copies of its plan, by two workers under the lock, in whatever order. For
+    /// want of memory the channel comes back as it was.
     pub fn work<C: Calls + Sync, G: Gate, R: Threads + Wait + Sync>(
         self,
         rt: &R,
@@ -43,7 +43,8 @@ impl Running {
     ) -> Result<Running, Refused<Running>>
         requires blocks { length self.context ≡ mission.now.rules.blocks }
         requires decided { (d : DecidedValue) × (self.decided ≡ Some d) }
-        ensures worked { IfOk result (λ new. HasWorked mission.now.rules (cycle_writes mission.now cycle) cycle self new) }
+        ensures worked { IfOk result
+            (λ new. HasWorked mission.now.rules (cycle_writes mission.now cycle) cycle self new) }
         ensures blocks { IfOk result (λ new. length new.context ≡ length self.context) }
         ensures refused { IfErr result (λ e. e.value ≡ self) }
     {

@@ -31,8 +31,8 @@ impl Node {
         }
     }
 
-    /// Does the writes of a cycle and the copies of its plan, by two workers under the lock, in whatever order. For want
-    /// of memory the node is as before. It may wait.
+    /// Does the writes of a cycle and the copies of its plan, by two workers under the lock, in whatever order. For
+    /// want of memory the node is as before. It may wait.
     pub fn work<C: Calls + Sync, G: Gate, R: Threads + Wait + Sync>(
         &mut self,
         rt: &R,

@@ -13,21 +13,26 @@ texts_from-append text k [] ys = ap (λ n. texts_from text n ys) same
     same : k ≡ k + 0
     same = omega arith
 texts_from-append text k (x ∷ xs) ys =
-    ap (λ (rest : TextValue). text k x ++ rest) (texts_from-append text (k + 1) xs ys ∙ ap (λ n. texts_from text (k + 1) xs ++ texts_from text n ys) moved)
+    ap (λ (rest : TextValue). text k x ++ rest)
+    (texts_from-append text (k + 1) xs ys ∙ ap (λ n. texts_from text (k + 1) xs ++ texts_from text n ys) moved)
     ∙ sym (append_assoc (text k x) (texts_from text (k + 1) xs) (texts_from text (k + length (x ∷ xs)) ys))
   where
     moved : k + 1 + length xs ≡ k + suc (length xs)
     moved = omega arith
 
 -- the texts of the first elements are a front of all texts
-pub place_front : {A : Type 0} (text : ℕ → A → TextValue) (xs : List A) (n : ℕ) → (later : TextValue) × (texts_from text 0 xs ≡ texts_from text 0 (take n xs) ++ later)
-place_front text xs n =
-    (texts_from text (0 + length (take n xs)) (drop n xs), ap (texts_from text 0) (sym (take-append-drop n xs)) ∙ texts_from-append text 0 (take n xs) (drop n xs))
+pub place_front : {A : Type 0} (text : ℕ → A → TextValue) (xs : List A) (n : ℕ) →
+    (later : TextValue) × (texts_from text 0 xs ≡ texts_from text 0 (take n xs) ++ later)
+place_front text xs n = (
+  texts_from text (0 + length (take n xs)) (drop n xs),
+  ap (texts_from text 0) (sym (take-append-drop n xs)) ∙ texts_from-append text 0 (take n xs) (drop n xs),
+)
 
 module _ {A : Type 0} (old : TextValue) (xs : List A) (at : ℕ) (d : A) (now next : TextValue) where
   -- one more element by its place
   pub place_more : (text : ℕ → A → TextValue) → at < length xs → length (take at xs) ≡ at →
-      now ≡ old ++ texts_from text 0 (take at xs) → next ≡ now ++ text at (get_or xs at d) → next ≡ old ++ texts_from text 0 (take (at + 1) xs)
+      now ≡ old ++ texts_from text 0 (take at xs) → next ≡ now ++ text at (get_or xs at d) →
+      next ≡ old ++ texts_from text 0 (take (at + 1) xs)
   place_more text low short before this =
       this
       ∙ ap (λ (t : TextValue). t ++ text at (get_or xs at d)) before
@@ -46,7 +51,8 @@ module _ {A : Type 0} (old : TextValue) (xs : List A) (at : ℕ) (d : A) (now ne
 
   -- one more element
   pub element_more : (text : A → TextValue) → at < length xs →
-      now ≡ old ++ flat_map text (take at xs) → next ≡ now ++ text (get_or xs at d) → next ≡ old ++ flat_map text (take (at + 1) xs)
+      now ≡ old ++ flat_map text (take at xs) → next ≡ now ++ text (get_or xs at d) →
+      next ≡ old ++ flat_map text (take (at + 1) xs)
   element_more text low before this =
       this
       ∙ ap (λ (t : TextValue). t ++ text (get_or xs at d)) before

@@ -41,7 +41,8 @@ bound_of M = join_bound M.rules.blocks M.rules.sweep M.rules.last (most_blocks M
 
 -- the first four lines
 unfoldable pub head_text : MissionValue → TextValue
-head_text M = part_text (check_head_part M.rules.channels M.cycles M.rules.blocks (rounds_of M) (most_blocks M.table) (bound_of M))
+head_text M = part_text (check_head_part M.rules.channels M.cycles M.rules.blocks (rounds_of M) (most_blocks M.table)
+    (bound_of M))
 
 -- the first four lines, and the lines of each row
 abbrev pub check_of : MissionValue → TextValue

@@ -41,7 +41,8 @@ fn push_words(
     block: u8,
     set: &[Option<Expr>; 8],
 ) -> Result<(), AllocError>
-    ensures { OnOk result (text.new ≡ text.old ++ texts_from (word_text row task.now block) 0 (map (option_map tree) set.now)) }
+    ensures { OnOk result (text.new
+        ≡ text.old ++ texts_from (word_text row task.now block) 0 (map (option_map tree) set.now)) }
 {
     for word in 0..8u8 {
         push_word(alloc, text, row, task, block, word, &set[word as usize])?;

@@ -44,7 +44,8 @@ guards_top = record (new_app (codes "guards")).top {
 abbrev pub guards_app : App
 guards_app =
     with_subcommand
-    (with_subcommand (with_subcommand (with_subcommand (record { top = guards_top; subs = [] }) run_shape) check_shape) demo_shape)
+    (with_subcommand (with_subcommand (with_subcommand (record { top = guards_top; subs = [] }) run_shape) check_shape)
+    demo_shape)
     audit_shape
 
 -- whether the flag was given

@@ -52,8 +52,8 @@ command_of_four word first second third =
     else (if bytes_eq first (codes "--last") && bytes_eq third (codes "--trace") then run_last true second else None))
     else None
 
--- exactly `run`, `run --trace`, `run --last K`, `run --trace --last K`, `run --last K --trace`, `check`, `demo N` and `audit`
--- are commands
+-- exactly `run`, `run --trace`, `run --last K`, `run --trace --last K`, `run --last K --trace`, `check`, `demo N` and
+-- `audit` are commands
 abbrev pub command_of : List (List ℕ) → Option Command
 command_of (word ∷ []) = command_of_word word
 command_of (word ∷ value ∷ []) = command_of_pair word value

@@ -98,8 +98,8 @@ fn read_words(alloc: Global, words: &[&str]) -> Result<Option<Command>, AllocErr
 
 /// The command of the words that follow the program's name, or none. It is `run`, `run --trace`, `run --last K`,
 /// `run --trace --last K` or `run --last K --trace` with a number K of one to four digits from 1 to 2,000, `check`,
-/// `demo N` with a number of one to twenty digits below two to the 64th, or `audit`; no other list of words is a command,
-/// also not one with `--`, with a joined spelling or with a call for help.
+/// `demo N` with a number of one to twenty digits below two to the 64th, or `audit`; no other list of words is a
+/// command, also not one with `--`, with a joined spelling or with a call for help.
 pub fn read_command(alloc: Global, words: &Words) -> Result<Option<Command>, AllocError>
     ensures { IfOk result (λ command. command ≡ command_of words.now.items) }
 {

@@ -277,8 +277,9 @@ fn accusing() -> Option<SourceWord> {
     })
 }
 
-// In one cycle the word of channel 0 is missing and two words accuse channel 1, which accuses nobody. Both are judged and
-// reach the threshold, but only 0 may go, since three remain then; in the next cycle the count of 1 falls to a half.
+// In one cycle the word of channel 0 is missing and two words accuse channel 1, which accuses nobody. Both are judged
+// and reach the threshold, but only 0 may go, since three remain then; in the next cycle the count of 1 falls to a
+// half.
 #[test]
 fn two_candidates_of_four(rt: HostRuntime) -> Result<(), Fail> {
     let rules = strict_rules();

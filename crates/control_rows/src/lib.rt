@@ -1,5 +1,5 @@
-//! What a channel keeps from cycle to cycle, as tests: tags of a transfer, votes, counts of errors, worked cycles of one
-//! control, and lists of frames that are handed to a returning channel's replica.
+//! What a channel keeps from cycle to cycle, as tests: tags of a transfer, votes, counts of errors, worked cycles of
+//! one control, and lists of frames that are handed to a returning channel's replica.
 #![tactic(auto)]
 
 #[cfg(test)]

@@ -14,7 +14,8 @@ each_front : list_all (λ m. list_all (is_front m) (range_with_len 0 8)) (range_
 unfolding channels_where set_of_mask
 each_front = refl
 
-pub front_is : (set : ChannelSet) (m n : ℕ) → set ≡ set_of_mask m → m < 128 → n ≤ 7 → filter (λ q. nat_lt (rank_in set q) n) set ≡ take n set
+pub front_is : (set : ChannelSet) (m n : ℕ) → set ≡ set_of_mask m → m < 128 → n ≤ 7 →
+    filter (λ q. nat_lt (rank_in set q) n) set ≡ take n set
 front_is set m n is low most =
     let at_mask = tried (λ k. list_all (is_front k) (range_with_len 0 8)) 128 0 m each_front (omega arith) low in
     rw is (same_list-true _ _ (tried (is_front m) 8 0 n at_mask (omega arith) (omega arith)))

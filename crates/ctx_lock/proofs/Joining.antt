@@ -30,14 +30,18 @@ pub record Picks (h xs ys : List Actor) : Type 0 where
 pub picks : (h xs ys : List Actor) → StartsWith h xs → StartsWith h ys → Picks h xs ys
 picks h xs ys p q = record { long = all.0; short = all.1; left = all.2; right = all.3 }
   where
-    pick : (t : Bool) → (t ≡ true → length xs ≤ length ys) → (t ≡ false → length ys < length xs) → StartsWith h (cond t ys xs) × StartsWith h (cond t xs ys) × StartsWith (cond t ys xs) xs × StartsWith (cond t ys xs) ys
+    pick : (t : Bool) → (t ≡ true → length xs ≤ length ys) → (t ≡ false → length ys < length xs) →
+        StartsWith h (cond t ys xs) × StartsWith h (cond t xs ys) × StartsWith (cond t ys xs) xs
+        × StartsWith (cond t ys xs) ys
     pick true le gt = (q, p, starts_order h xs ys p q (le refl), starts_same ys)
     pick false le gt = let lt = gt refl in (p, q, starts_same xs, starts_order h ys xs q p (omega arith))
 
-    all : StartsWith h (longer xs ys) × StartsWith h (shorter xs ys) × StartsWith (longer xs ys) xs × StartsWith (longer xs ys) ys
+    all : StartsWith h (longer xs ys) × StartsWith h (shorter xs ys) × StartsWith (longer xs ys) xs
+        × StartsWith (longer xs ys) ys
     all = pick (nat_le (length xs) (length ys)) (leb-true (length xs) (length ys)) (leb-false (length xs) (length ys))
 
-module _ {T O : Type 0} (origin : T → O) (history : T → List Actor) (due : O → Actor → ℕ) (o : O) (first : List Actor) where
+module _ {T O : Type 0} (origin : T → O) (history : T → List Actor) (due : O → Actor → ℕ) (o : O)
+    (first : List Actor) where
   abbrev Table : Type 0
   Table = State (Option T) (View O)
 
@@ -45,8 +49,10 @@ module _ {T O : Type 0} (origin : T → O) (history : T → List Actor) (due : O
   Rule = Ordered origin history due o first
 
   -- joining two seats
-  module _ (s : Table) (rule : Rule s) (id other : ℕ) (v w : View O) (p q : Actor) (some_p : 0 < has p v) (some_q : 0 < has q w) (waits_v : v.stage ≡ Waits) (waits_w : w.stage ≡ Waits)
-      (at_v : get_elem? s.views id ≡ some v) (ne : ¬ (other ≡ id)) (at_other : get_elem? (set s.views id (joined v w)) other ≡ some w) where
+  module _ (s : Table) (rule : Rule s) (id other : ℕ) (v w : View O) (p q : Actor) (some_p : 0 < has p v)
+      (some_q : 0 < has q w) (waits_v : v.stage ≡ Waits) (waits_w : w.stage ≡ Waits)
+      (at_v : get_elem? s.views id ≡ some v) (ne : ¬ (other ≡ id))
+      (at_other : get_elem? (set s.views id (joined v w)) other ≡ some w) where
     abbrev b : View O
     b = joined v w
 
@@ -63,7 +69,11 @@ module _ {T O : Type 0} (origin : T → O) (history : T → List Actor) (due : O
     know_w = live o first rule.h w q some_q (rule.views.each other w at_w)
 
     same_sum : (f : View O → ℕ) → f b ≡ f v + f w → f spent ≡ 0 → total f final ≡ total f s.views
-    same_sum f e z = omega (arith, total-set f s.views id v b at_v, total-set f (set s.views id b) other w spent at_other)
+    same_sum f e z = omega (
+      arith,
+      total-set f s.views id v b at_v,
+      total-set f (set s.views id b) other w spent at_other,
+    )
 
     abbrev Of : ℕ → View O → Type 0
     Of k u = (spent ≡ u) ⊎ ((b ≡ u) ⊎ (get_elem? s.views k ≡ some u))
@@ -93,11 +103,21 @@ module _ {T O : Type 0} (origin : T → O) (history : T → List Actor) (due : O
         elim (ℕ_discrete (has a v) 0) as (λ _. times a b.seen ≡ times a first + made a b) [
           | yes none_v ↦
               let some_w : 0 < has a w = omega arith in
-              omega (arith, know_v.own a none_v, know_w.counted a some_w, times_own o first rule.h s.views rule.views other w a at_w some_w)
+              omega (
+                arith,
+                know_v.own a none_v,
+                know_w.counted a some_w,
+                times_own o first rule.h s.views rule.views other w a at_w some_w,
+              )
           | no more_v ↦
               let some_v : 0 < has a v = omega arith in
               let none_w : has a w ≡ 0 = apart o first rule.h s.views rule.views id other v w a ne at_v at_w some_v in
-              omega (arith, know_w.own a none_w, know_v.counted a some_v, times_own o first rule.h s.views rule.views id v a at_v some_v)
+              omega (
+                arith,
+                know_w.own a none_w,
+                know_v.counted a some_v,
+                times_own o first rule.h s.views rule.views id v a at_v some_v,
+              )
         ]
 
     join_view : IsView o first rule.h b
@@ -120,7 +140,8 @@ module _ {T O : Type 0} (origin : T → O) (history : T → List Actor) (due : O
     abbrev joined_table : Table
     joined_table = record { words = s.words; homes = s.homes; views = final }
 
-    active_of : (stage : Stage) → ¬ (Waits ≡ stage) → (k : ℕ) (u : View O) → u.stage ≡ stage → Of k u → get_elem? s.views k ≡ some u
+    active_of : (stage : Stage) → ¬ (Waits ≡ stage) → (k : ℕ) (u : View O) → u.stage ≡ stage → Of k u →
+        get_elem? s.views k ≡ some u
     active_of stage ne' k u is (inl e) = absurd (stage_of spent u stage refl e is ne')
     active_of stage ne' k u is (inr (inl e)) = absurd (stage_of b u stage waits_v e is ne')
     active_of stage ne' k u is (inr (inr e)) = e
@@ -148,6 +169,8 @@ module _ {T O : Type 0} (origin : T → O) (history : T → List Actor) (due : O
       phase = same_phase origin history due o first rule.h s joined_table join_leaves rule.phase;
     }
 
-  pub joins : (id : ℕ) (v : View O) (other : ℕ) (w : View O) (p q : Actor) → 0 < has p v → 0 < has q w → v.stage ≡ Waits → w.stage ≡ Waits
+  pub joins : (id : ℕ) (v : View O) (other : ℕ) (w : View O) (p q : Actor) → 0 < has p v → 0 < has q w →
+      v.stage ≡ Waits → w.stage ≡ Waits
       → Joins Rule id v other w (joined v w) spent
-  joins id v other w p q some_p some_q waits_v waits_w s rule at_v ne at_other = join_rule s rule id other v w p q some_p some_q waits_v waits_w at_v ne at_other
+  joins id v other w p q some_p some_q waits_v waits_w s rule at_v ne at_other =
+      join_rule s rule id other v w p q some_p some_q waits_v waits_w at_v ne at_other

@@ -21,10 +21,13 @@ module _ {T O : Type 0} where
     pub homes : s'.homes ≡ s.homes
     pub opening : total opens s'.views ≡ total opens s.views
     pub turn : total turns s'.views ≡ total turns s.views
-    pub active : (stage : Stage) → ¬ (Waits ≡ stage) → (k : ℕ) (u : View O) → u.stage ≡ stage → get_elem? s'.views k ≡ some u → get_elem? s.views k ≡ some u
+    pub active : (stage : Stage) → ¬ (Waits ≡ stage) → (k : ℕ) (u : View O) → u.stage ≡ stage →
+        get_elem? s'.views k ≡ some u → get_elem? s.views k ≡ some u
 
-module _ {T O : Type 0} (origin : T → O) (history : T → List Actor) (due : O → Actor → ℕ) (o : O) (first : List Actor) where
-  pub same_phase : (h : List Actor) (s s' : State (Option T) (View O)) → Leaves s s' → Phase origin history due o first h s → Phase origin history due o first h s'
+module _ {T O : Type 0} (origin : T → O) (history : T → List Actor) (due : O → Actor → ℕ) (o : O)
+    (first : List Actor) where
+  pub same_phase : (h : List Actor) (s s' : State (Option T) (View O)) → Leaves s s' →
+      Phase origin history due o first h s → Phase origin history due o first h s'
   same_phase h s s' l (inl q) = inl record {
     word = l.word ∙ q.word;
     opening = l.opening ∙ q.opening;

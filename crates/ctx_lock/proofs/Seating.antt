@@ -20,7 +20,8 @@ use Rattle.ctx_lock.proofs.Viewing.{born, own_of, views_set, views_more, same_ac
 use Rattle.ctx_lock.proofs.Turning.{other_word}
 use Rattle.ctx_lock.proofs.Leaving.{Leaves, same_phase, stage_of}
 
-module _ {T O : Type 0} (origin : T → O) (history : T → List Actor) (due : O → Actor → ℕ) (o : O) (first : List Actor) where
+module _ {T O : Type 0} (origin : T → O) (history : T → List Actor) (due : O → Actor → ℕ) (o : O)
+    (first : List Actor) where
   abbrev Table : Type 0
   Table = State (Option T) (View O)
 
@@ -70,7 +71,8 @@ module _ {T O : Type 0} (origin : T → O) (history : T → List Actor) (due : O
   }
 
   -- splitting a seat
-  module _ (s : Table) (rule : Rule s) (id : ℕ) (v : View O) (p : O) (is : v.origin ≡ Some p) (at : get_elem? s.views id ≡ some v) where
+  module _ (s : Table) (rule : Rule s) (id : ℕ) (v : View O) (p : O) (is : v.origin ≡ Some p)
+      (at : get_elem? s.views id ≡ some v) where
     old : IsView o first rule.h v
     old = born o first rule.h v p is (rule.views.each id v at)
 
@@ -95,7 +97,9 @@ module _ {T O : Type 0} (origin : T → O) (history : T → List Actor) (due : O
       homes = refl;
       opening = omega (arith, total-append opens s.views (novice v ∷ []));
       turn = omega (arith, total-append turns s.views (novice v ∷ []));
-      active = λ stage ne k u is e. elim (at_snoc s.views (novice v) u k e) [ inl there ↦ there | inr same ↦ absurd (stage_of (novice v) u stage refl same is ne) ];
+      active = λ stage ne k u is e.
+          elim (at_snoc s.views (novice v) u k e)
+          [ inl there ↦ there | inr same ↦ absurd (stage_of (novice v) u stage refl same is ne) ];
     }
 
     split_rule : Rule grew
@@ -110,10 +114,13 @@ module _ {T O : Type 0} (origin : T → O) (history : T → List Actor) (due : O
 
   pub splits : (id : ℕ) (v : View O) (p : O) → v.origin ≡ Some p → Splits Rule id v v (novice v)
   splits id v p is s rule at =
-      subst (λ (views : List (View O)). Rule record { words = s.words; homes = s.homes; views = views ++ novice v ∷ [] }) (sym (set_again s.views id v at)) (split_rule s rule id v p is at)
+      subst (λ (views : List (View O)).
+      Rule record { words = s.words; homes = s.homes; views = views ++ novice v ∷ [] })
+      (sym (set_again s.views id v at)) (split_rule s rule id v p is at)
 
   -- claiming Sweep
-  module _ (s : Table) (rule : Rule s) (id : ℕ) (v : View O) (p : O) (is : v.origin ≡ Some p) (waits : v.stage ≡ Waits) (at : get_elem? s.views id ≡ some v) where
+  module _ (s : Table) (rule : Rule s) (id : ℕ) (v : View O) (p : O) (is : v.origin ≡ Some p) (waits : v.stage ≡ Waits)
+      (at : get_elem? s.views id ≡ some v) where
     known : IsView o first rule.h v
     known = born o first rule.h v p is (rule.views.each id v at)
 
@@ -124,7 +131,8 @@ module _ {T O : Type 0} (origin : T → O) (history : T → List Actor) (due : O
           homes = refl;
           opening = (let e = ap opening_weight same in omega (arith, total-set opens s.views id v w at));
           turn = (let e = ap turn_weight same in omega (arith, total-set turns s.views id v w at));
-          active = λ stage ne k u is e. elim (at_set s.views id k w u e) [ inl t ↦ absurd (stage_of w u stage rests t.1 is ne) | inr t ↦ t.1 ];
+          active = λ stage ne k u is e.
+              elim (at_set s.views id k w u e) [ inl t ↦ absurd (stage_of w u stage rests t.1 is ne) | inr t ↦ t.1 ];
         }
 
     one_word : get_or (set s.words 1 1) 1 0 ≡ 1
@@ -138,9 +146,11 @@ module _ {T O : Type 0} (origin : T → O) (history : T → List Actor) (due : O
       h = rule.h;
       wide = length-set s.words 1 1 ∙ rule.wide;
       legal = rule.legal;
-      views = subst (λ (views : List (View O)). AreViews o first rule.h views) (sym (set_again s.views id v at)) rule.views;
+      views = subst (λ (views : List (View O)). AreViews o first rule.h views) (sym (set_again s.views id v at))
+          rule.views;
       unclaimed = λ zero. absurd (omega (arith, one_word));
-      phase = same_phase origin history due o first rule.h s (stepped s 1 1 id [] v keeps) (claim_leaves v waits) rule.phase;
+      phase = same_phase origin history due o first rule.h s (stepped s 1 1 id [] v keeps) (claim_leaves v waits)
+          rule.phase;
     }
 
     module _ (unclaimed : get_or s.words 1 0 ≡ 0) where
@@ -152,10 +162,20 @@ module _ {T O : Type 0} (origin : T → O) (history : T → List Actor) (due : O
 
       -- Sweep has made no step yet
       no_steps : times Sweep rule.h ≡ times Sweep first
-      no_steps = omega (arith, rule.views.counted Sweep, nothing (made Sweep) (has Sweep) s.views nobody (λ j u d. own_of o first rule.h u Sweep (rule.views.each j u d)))
+      no_steps = omega (
+        arith,
+        rule.views.counted Sweep,
+        nothing (made Sweep) (has Sweep) s.views nobody
+            (λ j u d. own_of o first rule.h u Sweep (rule.views.each j u d)),
+      )
 
       seen_none : times Sweep v.seen ≡ times Sweep first
-      seen_none = omega (arith, times_mono Sweep v.seen rule.h known.seen, times_mono Sweep first v.seen known.started, no_steps)
+      seen_none = omega (
+        arith,
+        times_mono Sweep v.seen rule.h known.seen,
+        times_mono Sweep first v.seen known.started,
+        no_steps,
+      )
 
       sweep_own : (a : Actor) → has a (sweeper v) ≡ 0 → made a v ≡ 0
       sweep_own Task lacks = known.own Task (omega arith)
@@ -186,24 +206,36 @@ module _ {T O : Type 0} (origin : T → O) (history : T → List Actor) (due : O
         h = rule.h;
         wide = length-set s.words 1 1 ∙ rule.wide;
         legal = rule.legal;
-        views = views_set o first rule.h s.views rule.views rule.h id v (sweeper v) at (starts_same rule.h) (inr claim_view) sweep_single (λ a. refl);
+        views = views_set o first rule.h s.views rule.views rule.h id v (sweeper v) at (starts_same rule.h)
+            (inr claim_view) sweep_single (λ a. refl);
         unclaimed = λ zero. absurd (omega (arith, one_word));
-        phase = same_phase origin history due o first rule.h s (stepped s 1 1 id [] (sweeper v) keeps) (claim_leaves (sweeper v) waits) rule.phase;
+        phase = same_phase origin history due o first rule.h s (stepped s 1 1 id [] (sweeper v) keeps)
+            (claim_leaves (sweeper v) waits) rule.phase;
       }
 
-  pub claims_sweep : (slots id : ℕ) (m : Sat T O) (v : View O) (p : O) → m ≡ (v, []) → v.origin ≡ Some p → v.stage ≡ Waits → Allows Rule slots id m 1 (λ _. 1) (claims (step slots 1 1 0 none) m)
+  pub claims_sweep : (slots id : ℕ) (m : Sat T O) (v : View O) (p : O) → m ≡ (v, []) → v.origin ≡ Some p →
+      v.stage ≡ Waits → Allows Rule slots id m 1 (λ _. 1) (claims (step slots 1 1 0 none) m)
   claims_sweep slots id m v p is from waits =
       subst (λ (x : Sat T O). Allows Rule slots id x 1 (λ _. 1) (claims (step slots 1 1 0 none) x)) (sym is)
       (λ s rule wide at fits. dite (ℕ_discrete (get_or s.words 1 0) 0)
-      (λ zero. (sweeper v, keeps, tt, claim_first s rule id v p from waits at zero, ((λ _. refl), (λ more. absurd (more zero)))))
+      (λ zero. (
+        sweeper v,
+        keeps,
+        tt,
+        claim_first s rule id v p from waits at zero,
+        ((λ _. refl), (λ more. absurd (more zero))),
+      ))
       (λ more. (v, keeps, tt, claim_again s rule id v p from waits at, ((λ zero. absurd (more zero)), (λ _. refl)))))
 
   -- opening the table
-  module _ (s : Table) (rule : Rule s) (id : ℕ) (v : View O) (p : O) (is : v.origin ≡ Some p) (stage : v.stage ≡ Opens) (at : get_elem? s.views id ≡ some v) where
+  module _ (s : Table) (rule : Rule s) (id : ℕ) (v : View O) (p : O) (is : v.origin ≡ Some p) (stage : v.stage ≡ Opens)
+      (at : get_elem? s.views id ≡ some v) where
     pub vacant : Phase origin history due o first rule.h s → IsVacant origin history due first rule.h s
     vacant (inl q) = q
-    vacant (inr (inl q)) = let one : opens v ≡ 1 = ap opening_weight stage in absurd (omega (arith, term_le opens s.views id v at, q.opening))
-    vacant (inr (inr q)) = let one : opens v ≡ 1 = ap opening_weight stage in absurd (omega (arith, term_le opens s.views id v at, q.opening))
+    vacant (inr (inl q)) = let one : opens v ≡ 1 = ap opening_weight stage in
+        absurd (omega (arith, term_le opens s.views id v at, q.opening))
+    vacant (inr (inr q)) = let one : opens v ≡ 1 = ap opening_weight stage in
+        absurd (omega (arith, term_le opens s.views id v at, q.opening))
 
     was : IsVacant origin history due first rule.h s
     was = vacant rule.phase
@@ -212,7 +244,8 @@ module _ {T O : Type 0} (origin : T → O) (history : T → List Actor) (due : O
     told = born o first rule.h v p is (rule.views.each id v at)
 
     saw_first : v.seen ≡ rule.h
-    saw_first = sym (starts_whole first v.seen told.started (subst (λ (l : List Actor). StartsWith l v.seen) was.same told.seen)) ∙ sym was.same
+    saw_first = sym (starts_whole first v.seen told.started
+        (subst (λ (l : List Actor). StartsWith l v.seen) was.same told.seen)) ∙ sym was.same
 
     open_view : IsView o first rule.h (opened v)
     open_view = record {
@@ -226,10 +259,12 @@ module _ {T O : Type 0} (origin : T → O) (history : T → List Actor) (due : O
       acts = λ _. (Task, was.task id v at stage);
     }
 
-    open_whole : (k : ℕ) (u : View O) → get_elem? (set s.views id (opened v)) k ≡ some u → u.stage ≡ Turns → u.seen ≡ rule.h
+    open_whole : (k : ℕ) (u : View O) → get_elem? (set s.views id (opened v)) k ≡ some u → u.stage ≡ Turns →
+        u.seen ≡ rule.h
     open_whole k u e turn = elim (at_set s.views id k (opened v) u e) [
       | inl t ↦ subst (λ (x : View O). x.seen ≡ rule.h) t.1 saw_first
-      | inr t ↦ let one : turns u ≡ 1 = ap turn_weight turn in absurd (omega (arith, term_le turns s.views k u t.1, was.turn))
+      | inr t ↦ let one : turns u ≡ 1 = ap turn_weight turn in
+          absurd (omega (arith, term_le turns s.views k u t.1, was.turn))
     ]
 
     open_rule : Rule (stepped s 0 1 id [] (opened v) (takes 0 None))
@@ -237,18 +272,23 @@ module _ {T O : Type 0} (origin : T → O) (history : T → List Actor) (due : O
       h = rule.h;
       wide = length-set s.words 0 1 ∙ rule.wide;
       legal = rule.legal;
-      views = views_set o first rule.h s.views rule.views rule.h id v (opened v) at (starts_same rule.h) (inr open_view) (λ a. same_actors o first rule.h s.views rule.views id v (opened v) a at refl) (λ a. refl);
-      unclaimed = λ zero. (let t = total-set (has Sweep) s.views id v (opened v) at in omega (arith, rule.unclaimed (sym (other_word origin history due o first s.words 1) ∙ zero)));
+      views = views_set o first rule.h s.views rule.views rule.h id v (opened v) at (starts_same rule.h) (inr open_view)
+          (λ a. same_actors o first rule.h s.views rule.views id v (opened v) a at refl) (λ a. refl);
+      unclaimed = λ zero. (let t = total-set (has Sweep) s.views id v (opened v) at in
+          omega (arith, rule.unclaimed (sym (other_word origin history due o first s.words 1) ∙ zero)));
       phase = inr (inr record {
         word = get_or-set_same s.words 0 1 0 (let n = rule.wide in omega arith);
-        opening = (let e : opens v ≡ 1 = ap opening_weight stage in omega (arith, total-set opens s.views id v (opened v) at, was.opening));
-        turn = (let e : turns v ≡ 0 = ap turn_weight stage in omega (arith, total-set turns s.views id v (opened v) at, was.turn));
+        opening = (let e : opens v ≡ 1 = ap opening_weight stage in
+            omega (arith, total-set opens s.views id v (opened v) at, was.opening));
+        turn = (let e : turns v ≡ 0 = ap turn_weight stage in
+            omega (arith, total-set turns s.views id v (opened v) at, was.turn));
         home = ap (λ hs. set hs 0 none) was.home;
         whole = open_whole;
       });
     }
 
-  pub opens_table : (slots id : ℕ) (m : Sat T O) (v : View O) (p : O) → m ≡ (v, []) → v.origin ≡ Some p → v.stage ≡ Opens → Allows Rule slots id m 0 (λ _. 1) (opens_up (step slots 0 1 0 none) m)
+  pub opens_table : (slots id : ℕ) (m : Sat T O) (v : View O) (p : O) → m ≡ (v, []) → v.origin ≡ Some p →
+      v.stage ≡ Opens → Allows Rule slots id m 0 (λ _. 1) (opens_up (step slots 0 1 0 none) m)
   opens_table slots id m v p is from stage =
       subst (λ (x : Sat T O). Allows Rule slots id x 0 (λ _. 1) (opens_up (step slots 0 1 0 none) x)) (sym is)
       (λ s rule wide at fits. (

@@ -32,14 +32,16 @@ is_turn Opens more = absurd (omega arith)
 is_turn Turns more = refl
 
 -- who has seen the longer and the shorter has seen both
-parted : (h xs ys : List Actor) → StartsWith h (longer xs ys) → StartsWith h (shorter xs ys) → StartsWith h xs × StartsWith h ys
+parted : (h xs ys : List Actor) → StartsWith h (longer xs ys) → StartsWith h (shorter xs ys) →
+    StartsWith h xs × StartsWith h ys
 parted h xs ys long short = part (nat_le (length xs) (length ys)) long short
   where
     part : (t : Bool) → StartsWith h (cond t ys xs) → StartsWith h (cond t xs ys) → StartsWith h xs × StartsWith h ys
     part true p q = (q, p)
     part false p q = (p, q)
 
-module _ {T O : Type 0} (origin : T → O) (history : T → List Actor) (due : O → Actor → ℕ) (o : O) (first : List Actor) where
+module _ {T O : Type 0} (origin : T → O) (history : T → List Actor) (due : O → Actor → ℕ) (o : O)
+    (first : List Actor) where
   abbrev Table : Type 0
   Table = State (Option T) (View O)
 
@@ -47,19 +49,25 @@ module _ {T O : Type 0} (origin : T → O) (history : T → List Actor) (due : O
   Rule = Ordered origin history due o first
 
   -- while a seat is to open the table, the slot is empty
-  pub stays_empty : (id : ℕ) (v : View O) (p : O) (ws : List ℕ) (xs : List (Option T)) → v.origin ≡ Some p → v.stage ≡ Opens → Final (Seen Rule id v) ws xs → get_elem? xs 0 ≡ some None
+  pub stays_empty : (id : ℕ) (v : View O) (p : O) (ws : List ℕ) (xs : List (Option T)) → v.origin ≡ Some p →
+      v.stage ≡ Opens → Final (Seen Rule id v) ws xs → get_elem? xs 0 ≡ some None
   stays_empty id v p ws xs is stage last =
       let s : Table = last.0 in
       let seen : Seen Rule id v s = last.1 in
-      let q : IsVacant origin history due first seen.0.h s = vacant origin history due o first s seen.0 id v p is stage seen.1 seen.0.phase in
+      let q : IsVacant origin history due first seen.0.h s =
+      vacant origin history due o first s seen.0 id v p is stage seen.1 seen.0.phase in
       last.4 0 None (ap (λ hs. get_elem? hs 0) q.home)
 
   -- a seat that has both actors and waits leaves the turn to nobody else
-  module _ (s : Table) (rule : Rule s) (id : ℕ) (v : View O) (at : get_elem? s.views id ≡ some v) (both : (a : Actor) → 0 < has a v) (waits : v.stage ≡ Waits) where
-    other : (k : ℕ) (u : View O) (stage : Stage) (a : Actor) → get_elem? s.views k ≡ some u → u.stage ≡ stage → ¬ (Waits ≡ stage) → 0 < has a u → ⊥
+  module _ (s : Table) (rule : Rule s) (id : ℕ) (v : View O) (at : get_elem? s.views id ≡ some v)
+      (both : (a : Actor) → 0 < has a v) (waits : v.stage ≡ Waits) where
+    other : (k : ℕ) (u : View O) (stage : Stage) (a : Actor) → get_elem? s.views k ≡ some u → u.stage ≡ stage →
+        ¬ (Waits ≡ stage) → 0 < has a u → ⊥
     other k u stage a at_u is ne some_u = dite (ℕ_discrete k id)
-        (λ e. let same : v ≡ u = some-injective v u (sym at ∙ (ap (get_elem? s.views) (sym e) ∙ at_u)) in ne (sym waits ∙ (ap (λ (x : View O). x.stage) same ∙ is)))
-        (λ n. let none_u : has a u ≡ 0 = apart o first rule.h s.views rule.views id k v u a n at at_u (both a) in omega arith)
+        (λ e. let same : v ≡ u = some-injective v u (sym at ∙ (ap (get_elem? s.views) (sym e) ∙ at_u)) in
+        ne (sym waits ∙ (ap (λ (x : View O). x.stage) same ∙ is)))
+        (λ n. let none_u : has a u ≡ 0 = apart o first rule.h s.views rule.views id k v u a n at at_u (both a) in
+        omega arith)
 
     at_rest : Phase origin history due o first rule.h s → IsFree origin history due o rule.h s
     at_rest (inl q) =
@@ -88,13 +96,17 @@ module _ {T O : Type 0} (origin : T → O) (history : T → List Actor) (due : O
       origin_is = known.origin ∙ ap Some (sym resting.origin_is);
       seen = subst (λ (l : List Actor). StartsWith l v.seen) (sym resting.history_is) known.seen;
       heard = subst (λ (l : List Actor). StartsWith l v.heard) (sym resting.history_is) known.heard;
-      counted = λ a. let e = ap (times a) known.first_is in let h = ap (times a) resting.history_is in omega (arith, times_own o first rule.h s.views rule.views id v a at (both a));
-      legal = λ a. let e = ap (times a) resting.history_is in let d = ap (λ p. due p a) resting.origin_is in omega (arith, rule.legal a);
+      counted = λ a. let e = ap (times a) known.first_is in let h = ap (times a) resting.history_is in
+          omega (arith, times_own o first rule.h s.views rule.views id v a at (both a));
+      legal = λ a. let e = ap (times a) resting.history_is in let d = ap (λ p. due p a) resting.origin_is in
+          omega (arith, rule.legal a);
     }
 
   -- at the end the value is at home
-  pub closes : (id : ℕ) (v : View O) (ws : List ℕ) (xs : List (Option T)) → ((a : Actor) → 0 < has a v) → v.stage ≡ Waits → Final (Seen Rule id v) ws xs
-      → (value : T) × (get_elem? xs 0 ≡ some (Some value)) × (origin value ≡ o) × (v.first ≡ first) × IsLast origin history due v value
+  pub closes : (id : ℕ) (v : View O) (ws : List ℕ) (xs : List (Option T)) → ((a : Actor) → 0 < has a v) →
+      v.stage ≡ Waits → Final (Seen Rule id v) ws xs
+      → (value : T) × (get_elem? xs 0 ≡ some (Some value)) × (origin value ≡ o) × (v.first ≡ first)
+      × IsLast origin history due v value
   closes id v ws xs both waits last =
       let s : Table = last.0 in
       let seen : Seen Rule id v s = last.1 in
@@ -111,15 +123,19 @@ module _ {T O : Type 0} (origin : T → O) (history : T → List Actor) (due : O
   both_actors v w is_v is_w Sweep = let n = ap (times Sweep) is_w in omega (arith, times-append Sweep v.actors w.actors)
 
   -- where the seats of both passes were joined into one, with the view u
-  pub gives_back : (id : ℕ) (u v w : View O) (ws : List ℕ) (xs : List (Option T)) (begun : T) → u ≡ joined v w → o ≡ origin begun → first ≡ history begun
+  pub gives_back : (id : ℕ) (u v w : View O) (ws : List ℕ) (xs : List (Option T)) (begun : T) → u ≡ joined v w →
+      o ≡ origin begun → first ≡ history begun
       → v.actors ≡ Task ∷ [] → w.actors ≡ Sweep ∷ [] → v.stage ≡ Waits → made Sweep v ≡ 0 → made Task w ≡ 0
-      → Final (Seen Rule id u) ws xs → (value : T) × (get_elem? xs 0 ≡ some (Some value)) × IsClosed origin history due begun v w value
+      → Final (Seen Rule id u) ws xs →
+      (value : T) × (get_elem? xs 0 ≡ some (Some value)) × IsClosed origin history due begun v w value
   gives_back id u v w ws xs begun is o_is first_is is_v is_w waits none_v none_w last =
-      let there : Final (Seen Rule id (joined v w)) ws xs = subst (λ (x : View O). Final (Seen Rule id x) ws xs) is last in
+      let there : Final (Seen Rule id (joined v w)) ws xs =
+      subst (λ (x : View O). Final (Seen Rule id x) ws xs) is last in
       let t = closes id (joined v w) ws xs (both_actors v w is_v is_w) waits there in
       let value : T = t.0 in
       let e : IsLast origin history due (joined v w) value = t.4 in
-      let seen : StartsWith (history value) v.seen × StartsWith (history value) w.seen = parted (history value) v.seen w.seen e.seen e.heard in (
+      let seen : StartsWith (history value) v.seen × StartsWith (history value) w.seen =
+      parted (history value) v.seen w.seen e.seen e.heard in (
         value,
         t.1,
         record {
@@ -128,8 +144,10 @@ module _ {T O : Type 0} (origin : T → O) (history : T → List Actor) (due : O
           first_is = t.3 ∙ first_is;
           task_seen = seen.0;
           sweep_seen = seen.1;
-          tasks = (let n = ap (times Task) (t.3 ∙ first_is) in omega (arith, e.counted Task, times-append Task v.steps w.steps));
-          sweeps = (let n = ap (times Sweep) (t.3 ∙ first_is) in omega (arith, e.counted Sweep, times-append Sweep v.steps w.steps));
+          tasks = (let n = ap (times Task) (t.3 ∙ first_is) in
+              omega (arith, e.counted Task, times-append Task v.steps w.steps));
+          sweeps = (let n = ap (times Sweep) (t.3 ∙ first_is) in
+              omega (arith, e.counted Sweep, times-append Sweep v.steps w.steps));
           legal = e.legal;
         },
       )

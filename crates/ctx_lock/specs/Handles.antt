@@ -51,4 +51,5 @@ module _ {T O : Type 0} where
   pub record IsWorkedOut {g : _} (due : O → Actor → ℕ) (before after : Pass T O g) : Type 0 where
     pub pass : IsSamePass before after
     pub same : IsSameView (view before) (view after)
-    pub full : (o : O) → (view before).origin ≡ Some o → times (actor_of before) (view before).first + made (actor_of before) (view after) ≡ due o (actor_of before)
+    pub full : (o : O) → (view before).origin ≡ Some o →
+        times (actor_of before) (view before).first + made (actor_of before) (view after) ≡ due o (actor_of before)

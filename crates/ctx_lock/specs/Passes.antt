@@ -15,7 +15,15 @@ pub record AreStepsOf (actor : Actor) (number : ℕ) (steps : List Actor) : Type
 module _ {O : Type 0} where
   -- the view of a pass that has made no step, of the origin o and the history first
   abbrev pub starter : Actor → O → List Actor → View O
-  starter a o first = record { origin = Some o; first = first; seen = first; heard = []; actors = a ∷ []; steps = []; stage = Waits }
+  starter a o first = record {
+    origin = Some o;
+    first = first;
+    seen = first;
+    heard = [];
+    actors = a ∷ [];
+    steps = [];
+    stage = Waits;
+  }
 
   -- what does not change of a pass
   pub record IsSameView (v w : View O) : Type 0 where
@@ -23,7 +31,8 @@ module _ {O : Type 0} where
     pub first : w.first ≡ v.first
     pub actors : w.actors ≡ v.actors
 
-  -- a step was made: what is seen is what was seen, then steps of the other actor alone, then the step, which is one more of the pass's own
+  -- a step was made: what is seen is what was seen, then steps of the other actor alone, then the step, which is one
+  -- more of the pass's own
   pub record IsNext (due : O → Actor → ℕ) (actor : Actor) (v w : View O) : Type 0 where
     pub between : List Actor
     pub others : times actor between ≡ 0
@@ -39,8 +48,10 @@ module _ {O : Type 0} where
     pub origin : (o : O) × (v.origin ≡ Some o)
     pub full : (o : O) → v.origin ≡ Some o → times actor v.first + made actor v ≡ due o actor
 
--- The value that comes out of a lock that was made for the value begun, where Task's pass had the view v and Sweep's pass w: its history goes on what they had seen, and has their steps and no others
-pub record IsClosed {T O : Type 0} (origin : T → O) (history : T → List Actor) (due : O → Actor → ℕ) (begun : T) (v w : View O) (value : T) : Type 0 where
+-- The value that comes out of a lock that was made for the value begun, where Task's pass had the view v and Sweep's
+-- pass w: its history goes on what they had seen, and has their steps and no others
+pub record IsClosed {T O : Type 0} (origin : T → O) (history : T → List Actor) (due : O → Actor → ℕ) (begun : T)
+    (v w : View O) (value : T) : Type 0 where
   pub origin_is : origin value ≡ origin begun
   pub origin_seen : v.origin ≡ Some (origin value)
   pub first_is : v.first ≡ history begun

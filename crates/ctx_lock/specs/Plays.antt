@@ -26,7 +26,8 @@ module _ {T O : Type 0} (origin : T → O) (history : T → List Actor) (due : O
 
   -- the value that is given back: its history is what the seat has seen, or has one step more of the seat's actor
   abbrev pub Grown : View O → T → Type 0
-  Grown v value = (history value ≡ v.seen) ⊎ ((a : Actor) × (0 < has a v) × (history value ≡ v.seen ++ a ∷ []) × (times a v.seen < due (origin value) a))
+  Grown v value = (history value ≡ v.seen)
+      ⊎ ((a : Actor) × (0 < has a v) × (history value ≡ v.seen ++ a ∷ []) × (times a v.seen < due (origin value) a))
 
   abbrev pub releases : Step (Option T) → Sat T O → ℕ → Sat T O → Type 0
   releases st m r n = (value : T) → m.1 ≡ (0, Some value) ∷ [] → n ≡ (released (history value) m.0, [])

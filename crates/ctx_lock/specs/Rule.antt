@@ -1,4 +1,5 @@
--- The rule of the lock's table. Word 0 is 2 while the table has no value yet, 1 while the turn is held, and else 0. Word 1 is 1 once the actor Sweep was claimed.
+-- The rule of the lock's table. Word 0 is 2 while the table has no value yet, 1 while the turn is held, and else 0.
+-- Word 1 is 1 once the actor Sweep was claimed.
 use Rattle.std.specs.Prelude.{◌≡◌, ℕ, ◌+◌, ◌<◌, ◌≤◌, ◌⊎◌, List, [], ◌∷◌, length, slice_index, Option, Some, None}
 use mathlib.Core.Option.{some, none}
 use lib.ListN.{get_elem?}

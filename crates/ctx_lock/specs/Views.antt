@@ -43,11 +43,27 @@ module _ {O : Type 0} where
 
   -- the first seat, which is to put the value into the table
   abbrev pub opener : O → List Actor → View O
-  opener o first = record { origin = Some o; first = first; seen = first; heard = []; actors = Task ∷ []; steps = []; stage = Opens }
+  opener o first = record {
+    origin = Some o;
+    first = first;
+    seen = first;
+    heard = [];
+    actors = Task ∷ [];
+    steps = [];
+    stage = Opens;
+  }
 
   -- a seat that was split from v
   abbrev pub novice : View O → View O
-  novice v = record { origin = v.origin; first = v.first; seen = v.seen; heard = []; actors = []; steps = []; stage = Waits }
+  novice v = record {
+    origin = v.origin;
+    first = v.first;
+    seen = v.seen;
+    heard = [];
+    actors = [];
+    steps = [];
+    stage = Waits;
+  }
 
   abbrev pub sweeper : View O → View O
   sweeper v = record v { actors = Sweep ∷ v.actors }
@@ -65,4 +81,9 @@ module _ {O : Type 0} where
   released h v = record v { seen = h; steps = v.steps ++ drop (length v.seen) h; stage = Waits }
 
   abbrev pub joined : View O → View O → View O
-  joined v w = record v { seen = longer v.seen w.seen; heard = shorter v.seen w.seen; actors = v.actors ++ w.actors; steps = v.steps ++ w.steps }
+  joined v w = record v {
+    seen = longer v.seen w.seen;
+    heard = shorter v.seen w.seen;
+    actors = v.actors ++ w.actors;
+    steps = v.steps ++ w.steps;
+  }

@@ -3,7 +3,8 @@ use guards_model::Actor;
 
 /// Where a worker may be held before each of its steps.
 pub trait Gate: Sync {
-    /// Is called once by each `take_step`, before it asks for the turn, with the number of steps that its worker has made. No lock is held meanwhile.
+    /// Is called once by each `take_step`, before it asks for the turn, with the number of steps that its worker has
+    /// made. No lock is held meanwhile.
     fn before(&self, chan: u8, actor: Actor, place: usize);
 }
 

@@ -123,7 +123,8 @@ impl<T: Turned> Shared<T> {
         requires { IsPassOf self.now pass.old }
         ensures pass { IsSamePass pass.old pass.new }
         ensures same { IsSameView (view pass.old) (view pass.new) }
-        ensures stepped { MatchBool result (IsNext T.due (actor_of pass.old) (view pass.old) (view pass.new)) (IsDone T.due (actor_of pass.old) (view pass.old) (view pass.new)) }
+        ensures stepped { MatchBool result (IsNext T.due (actor_of pass.old) (view pass.old) (view pass.new))
+            (IsDone T.due (actor_of pass.old) (view pass.old) (view pass.new)) }
     {
         gate.before(chan, pass.actor, pass.made);
         let mut value = self.win(rt, &mut pass.seat);
@@ -194,7 +195,8 @@ impl<T: Turned> Laid<T> {
         ensures begun { begun result.0 ≡ value }
         ensures passes { IsPassOf result.0 result.1 × IsPassOf result.0 result.2 }
         ensures actors { (actor_of result.1 ≡ Task) × (actor_of result.2 ≡ Sweep) }
-        ensures views { (view result.1 ≡ starter Task (T.origin value) (T.history value)) × (view result.2 ≡ starter Sweep (T.origin value) (T.history value)) }
+        ensures views { (view result.1 ≡ starter Task (T.origin value) (T.history value))
+            × (view result.2 ≡ starter Sweep (T.origin value) (T.history value)) }
     {
         let Laid {
             table,
@@ -232,7 +234,9 @@ impl<T: Turned> Shared<T> {
         ensures begun { IfOk result (λ r. begun r.0 ≡ value) }
         ensures passes { IfOk result (λ r. IsPassOf r.0 r.1 × IsPassOf r.0 r.2) }
         ensures actors { IfOk result (λ r. (actor_of r.1 ≡ Task) × (actor_of r.2 ≡ Sweep)) }
-        ensures views { IfOk result (λ r. (view r.1 ≡ starter Task (T.origin value) (T.history value)) × (view r.2 ≡ starter Sweep (T.origin value) (T.history value))) }
+        ensures views { IfOk result
+            (λ r. (view r.1 ≡ starter Task (T.origin value) (T.history value))
+            × (view r.2 ≡ starter Sweep (T.origin value) (T.history value))) }
         ensures refused { IfErr result (λ r. r.value ≡ value) }
     {
         for _ in rt.forever() {

@@ -18,10 +18,14 @@ pub trait Turned: Send {
     // How many steps the origin gives an actor.
     ghost due: { Self.Origin → Actor → ℕ };
 
-    /// Does the actor's next step and appends it to the history, or answers false where the actor has made all that are due.
+    /// Does the actor's next step and appends it to the history, or answers false where the actor has made all that are
+    /// due.
     fn step(&mut self, actor: Actor) -> bool
         ensures origin { origin self.new ≡ origin self.old }
-        ensures stepped { MatchBool result ((history self.new ≡ history self.old ++ actor ∷ []) × (times actor (history self.old) < due (origin self.old) actor)) ((self.new ≡ self.old) × (due (origin self.old) actor ≤ times actor (history self.old))) };
+        ensures stepped { MatchBool result
+            ((history self.new ≡ history self.old ++ actor ∷ [])
+            × (times actor (history self.old) < due (origin self.old) actor))
+            ((self.new ≡ self.old) × (due (origin self.old) actor ≤ times actor (history self.old))) };
 
     ghost few: { (x : Self) (a : Actor) → due (origin x) a < 2 ^ 32 };
 }

@@ -29,7 +29,8 @@ demo_places = (0 ∷ []) ∷ (1 ∷ []) ∷ (2 ∷ []) ∷ (3 ∷ []) ∷ []
 write_keeps : (task n block : ℕ) → nat_lt block 128 ≡ true → write_fault 128 task n (demo_write block) ≡ None
 write_keeps task n block below = rw below refl
 
-writes_keep : (task n : ℕ) (blocks : List ℕ) → list_all (λ d. nat_lt d 128) blocks ≡ true → first_fault (write_fault 128 task) n (map demo_write blocks) ≡ None
+writes_keep : (task n : ℕ) (blocks : List ℕ) → list_all (λ d. nat_lt d 128) blocks ≡ true →
+    first_fault (write_fault 128 task) n (map demo_write blocks) ≡ None
 writes_keep task n [] all = refl
 writes_keep task n (block ∷ blocks) all =
     let parts = both (nat_lt block 128) (list_all (λ d. nat_lt d 128) blocks) all in
@@ -52,11 +53,14 @@ write_fits : (block : ℕ) → nat_lt block 128 ≡ true → list_all (fits_or_n
 unfolding is_word
 write_fits block below = rw below refl
 
-writes_fit : (blocks : List ℕ) → list_all (λ d. nat_lt d 128) blocks ≡ true → list_all (λ write. list_all (fits_or_none 128 2) write.set) (map demo_write blocks) ≡ true
+writes_fit : (blocks : List ℕ) → list_all (λ d. nat_lt d 128) blocks ≡ true →
+    list_all (λ write. list_all (fits_or_none 128 2) write.set) (map demo_write blocks) ≡ true
 writes_fit [] all = refl
 writes_fit (block ∷ blocks) all =
     let parts = both (nat_lt block 128) (list_all (λ d. nat_lt d 128) blocks) all in
-    and_true (list_all (fits_or_none 128 2) (demo_sets block)) (list_all (λ write. list_all (fits_or_none 128 2) write.set) (map demo_write blocks)) (write_fits block parts.0) (writes_fit blocks parts.1)
+    and_true (list_all (fits_or_none 128 2) (demo_sets block))
+    (list_all (λ write. list_all (fits_or_none 128 2) write.set) (map demo_write blocks)) (write_fits block parts.0)
+    (writes_fit blocks parts.1)
 
 task_fits : (n x : ℕ) → expressions_fit 128 2 (demo_task n x) ≡ true
 unfolding demo_task
@@ -66,18 +70,22 @@ pub tasks_fit : (count n x : ℕ) → list_all (expressions_fit 128 2) (demo_tas
 unfolding demo_tasks
 tasks_fit zero n x = refl
 tasks_fit (suc count) n x =
-    and_true (expressions_fit 128 2 (demo_task n x)) (list_all (expressions_fit 128 2) (demo_tasks count (n + 1) (number_after 4 x))) (task_fits n x) (tasks_fit count (n + 1) (number_after 4 x))
+    and_true (expressions_fit 128 2 (demo_task n x))
+    (list_all (expressions_fit 128 2) (demo_tasks count (n + 1) (number_after 4 x))) (task_fits n x)
+    (tasks_fit count (n + 1) (number_after 4 x))
 
 pub tasks_named : (x : ℕ) → list_all (names_tasks (length (demo_tasks 4 0 x))) demo_places ≡ true
 unfolding demo_tasks
 tasks_named x = refl
 
-pub table_is : (x : ℕ) → table_naming (demo_tasks 4 0 x) demo_places 128 2 ≡ record { rows = map (λ task. task ∷ []) (demo_tasks 4 0 x); blocks = 128; width = 2 }
+pub table_is : (x : ℕ) → table_naming (demo_tasks 4 0 x) demo_places 128 2
+    ≡ record { rows = map (λ task. task ∷ []) (demo_tasks 4 0 x); blocks = 128; width = 2 }
 unfolding demo_tasks
 table_is x = refl
 
 -- where there is no fault the answer is no fault
-pub answered_ok : {T E : Type 0} (P : T → Type 0) (fault : Option E) (answer : Result T E) → fault ≡ None → MatchResult answer P (λ e. fault ≡ Some e) → IsOk answer
+pub answered_ok : {T E : Type 0} (P : T → Type 0) (fault : Option E) (answer : Result T E) → fault ≡ None →
+    MatchResult answer P (λ e. fault ≡ Some e) → IsOk answer
 answered_ok P fault (Ok table) none h = refl
 answered_ok P fault (Err e) none h = absurd cc
 
@@ -90,7 +98,8 @@ pub script_in_cycle : (count k x : ℕ) → list_all is_in_cycle (demo_script co
 unfolding demo_script
 script_in_cycle zero k x = refl
 script_in_cycle (suc count) k x =
-    and_true _ (true && (true && list_all is_in_cycle (demo_script count (k + 1) (number_after 3 x)))) (some_slot (drawn 9 (number_after 2 x))) (script_in_cycle count (k + 1) (number_after 3 x))
+    and_true _ (true && (true && list_all is_in_cycle (demo_script count (k + 1) (number_after 3 x))))
+    (some_slot (drawn 9 (number_after 2 x))) (script_in_cycle count (k + 1) (number_after 3 x))
 
 -- ---- the sensors
 
@@ -105,16 +114,23 @@ rows_used zero x = refl
 rows_used (suc count) x =
     rw (pairs_used (sensor_words x) (sensor_words (number_after 8 x)), rows_used count (number_after 16 x)) refl
 
-pub sensors_used : (n : ℕ) (sensors : List (Seen (List ℤ))) → rows_of sensors ≡ map (map (padded 4)) (sensor_rows 8 n) → in_use 2 sensors ≡ sensor_rows 8 n
-sensors_used n sensors rows = sym (map-map (map (take 2)) (λ row. row.items) sensors) ∙ ap (map (map (take 2))) rows ∙ rows_used 8 n
+pub sensors_used : (n : ℕ) (sensors : List (Seen (List ℤ))) → rows_of sensors ≡ map (map (padded 4)) (sensor_rows 8 n) →
+    in_use 2 sensors ≡ sensor_rows 8 n
+sensors_used n sensors rows =
+    sym (map-map (map (take 2)) (λ row. row.items) sensors) ∙ ap (map (map (take 2))) rows ∙ rows_used 8 n
 
 -- ---- the mission
 
-module _ (n : ℕ) (initial : ContextValue) (table : TableValue) (outputs : List (ℕ × ℕ)) (sensors : List (Seen (List ℤ))) (script : List FaultValue) where
+module _ (n : ℕ) (initial : ContextValue) (table : TableValue) (outputs : List (ℕ × ℕ)) (sensors : List (Seen (List ℤ)))
+    (script : List FaultValue) where
   abbrev pub AreDemo : Type 0
   AreDemo =
       (initial ≡ zeroed 128)
-      × (table ≡ record { rows = map (λ task. task ∷ []) (demo_tasks 4 0 (number_after 128 n)); blocks = 128; width = 2 })
+      × (table ≡ record {
+        rows = map (λ task. task ∷ []) (demo_tasks 4 0 (number_after 128 n));
+        blocks = 128;
+        width = 2;
+      })
       × (outputs ≡ (first_block n, 0) ∷ (first_block n, 1) ∷ [])
       × (rows_of sensors ≡ map (map (padded 4)) (sensor_rows 8 n))
       × (script ≡ demo_script 10 0 (number_after 144 n))
@@ -123,7 +139,8 @@ module _ (n : ℕ) (initial : ContextValue) (table : TableValue) (outputs : List
   unfolding demo_mission
   parts_make parts = rw (parts.0, parts.1, parts.2, parts.4, sensors_used n sensors parts.3) refl
 
-  pub parts_fit : AreDemo → AreParts (mission_with demo_rules 400 2 3 initial table outputs sensors script None) table sensors None
+  pub parts_fit : AreDemo →
+      AreParts (mission_with demo_rules 400 2 3 initial table outputs sensors script None) table sensors None
   parts_fit parts =
       record {
         mission = rw (parts_make parts) (demo_is_mission n);
@@ -133,7 +150,8 @@ module _ (n : ℕ) (initial : ContextValue) (table : TableValue) (outputs : List
         forward = tt;
       }
 
-  pub are_demo_of : (n0 n1 n2 block : ℕ) → n0 ≡ n → n1 ≡ number_after 128 n0 → n2 ≡ number_after 16 n1 → initial ≡ zeroed 128
+  pub are_demo_of : (n0 n1 n2 block : ℕ) → n0 ≡ n → n1 ≡ number_after 128 n0 → n2 ≡ number_after 16 n1 →
+      initial ≡ zeroed 128
       → table ≡ record { rows = map (λ task. task ∷ []) (demo_tasks 4 0 n1); blocks = 128; width = 2 }
       → block ≡ drawn 128 (next_number n1) → outputs ≡ (block, 0) ∷ (block, 1) ∷ []
       → rows_of sensors ≡ map (map (padded 4)) (sensor_rows 8 n0) → script ≡ demo_script 10 0 n2 → AreDemo
@@ -141,7 +159,8 @@ module _ (n : ℕ) (initial : ContextValue) (table : TableValue) (outputs : List
   are_demo_of n0 n1 n2 block is0 is1 is2 initial_is table_is block_is outputs_are sensors_are script_is =
       let after : n1 ≡ number_after 128 n = is1 ∙ ap (number_after 128) is0 in
       let last : n2 ≡ number_after 144 n = is2 ∙ ap (number_after 16) after ∙ sym (after_sum 128 16 n) in
-      let first : block ≡ drawn 128 (next_number (number_after 128 n)) = block_is ∙ ap (λ x. drawn 128 (next_number x)) after in (
+      let first : block ≡ drawn 128 (next_number (number_after 128 n)) =
+      block_is ∙ ap (λ x. drawn 128 (next_number x)) after in (
         initial_is,
         rw after at table_is,
         outputs_are ∙ ap (λ b. (b, 0) ∷ (b, 1) ∷ []) first,

@@ -26,9 +26,11 @@ pub draws_below : (count k x : ℕ) → 0 < k → list_all (λ d. nat_lt d k) (d
 unfolding draws
 draws_below zero k x some = refl
 draws_below (suc count) k x some =
-    and_true (nat_lt (drawn k (next_number x)) k) (list_all (λ d. nat_lt d k) (draws count k (next_number x))) (drawn_below k (next_number x) some) (draws_below count k (next_number x) some)
+    and_true (nat_lt (drawn k (next_number x)) k) (list_all (λ d. nat_lt d k) (draws count k (next_number x)))
+    (drawn_below k (next_number x) some) (draws_below count k (next_number x) some)
 
-all_mapped : {A B : Type 0} (given : A → Bool) (test : B → Bool) (f : A → B) (xs : List A) → ((x : A) → given x ≡ true → test (f x) ≡ true) → list_all given xs ≡ true → list_all test (map f xs) ≡ true
+all_mapped : {A B : Type 0} (given : A → Bool) (test : B → Bool) (f : A → B) (xs : List A) →
+    ((x : A) → given x ≡ true → test (f x) ≡ true) → list_all given xs ≡ true → list_all test (map f xs) ≡ true
 all_mapped given test f [] h all = refl
 all_mapped given test f (x ∷ xs) h all =
     let parts = both (given x) (list_all given xs) all in
@@ -42,25 +44,32 @@ writes block below = rw below refl
 
 task_is : (n x : ℕ) → is_task_in_range 128 2 (demo_task n x) ≡ true
 unfolding demo_task draws
-task_is n x = all_mapped (λ d. nat_lt d 128) (is_write 128 2) demo_write (draws 4 128 x) writes (draws_below 4 128 x (omega arith))
+task_is n x = all_mapped (λ d. nat_lt d 128) (is_write 128 2) demo_write (draws 4 128 x) writes
+    (draws_below 4 128 x (omega arith))
 
-rows_are : (count n x : ℕ) → list_all (λ row. nat_le (length row) 16 && list_all (is_task_in_range 128 2) row) (map (λ task. task ∷ []) (demo_tasks count n x)) ≡ true
+rows_are : (count n x : ℕ) →
+    list_all (λ row. nat_le (length row) 16 && list_all (is_task_in_range 128 2) row)
+    (map (λ task. task ∷ []) (demo_tasks count n x)) ≡ true
 unfolding demo_tasks
 rows_are zero n x = refl
 rows_are (suc count) n x =
-    and_true (is_task_in_range 128 2 (demo_task n x) && true) (list_all (λ row. nat_le (length row) 16 && list_all (is_task_in_range 128 2) row) (map (λ task. task ∷ []) (demo_tasks count (n + 1) (number_after 4 x))))
+    and_true (is_task_in_range 128 2 (demo_task n x) && true)
+    (list_all (λ row. nat_le (length row) 16 && list_all (is_task_in_range 128 2) row)
+    (map (λ task. task ∷ []) (demo_tasks count (n + 1) (number_after 4 x))))
     (and_true (is_task_in_range 128 2 (demo_task n x)) true (task_is n x) refl)
     (rows_are count (n + 1) (number_after 4 x))
 
 -- ---- sensors
 
 sum_below : (base more : ℕ) → nat_lt base 1000 ≡ true → nat_lt more 5 ≡ true → nat_lt (base + more) 1005 ≡ true
-sum_below base more b m = let b' = ltb-true base 1000 b in let m' = ltb-true more 5 m in lt-ltb (base + more) 1005 (omega (arith, b', m'))
+sum_below base more b m = let b' = ltb-true base 1000 b in let m' = ltb-true more 5 m in
+    lt-ltb (base + more) 1005 (omega (arith, b', m'))
 
 words_below : (x : ℕ) → list_all (λ w. nat_lt w 1005) (sensor_words x) ≡ true
 unfolding sensor_words
 words_below x =
-    all_mapped (λ d. nat_lt d 5) (λ w. nat_lt w 1005) (λ more. drawn 1000 (next_number x) + more) (draws 7 5 (next_number x))
+    all_mapped (λ d. nat_lt d 5) (λ w. nat_lt w 1005) (λ more. drawn 1000 (next_number x) + more)
+    (draws 7 5 (next_number x))
     (λ more m. sum_below (drawn 1000 (next_number x)) more (drawn_below 1000 (next_number x) (omega arith)) m)
     (draws_below 7 5 (next_number x) (omega arith))
 
@@ -68,27 +77,36 @@ word_is : (w : ℕ) → nat_lt w 1005 ≡ true → is_word (pos w) ≡ true
 unfolding is_word
 word_is w below = let b = ltb-true w 1005 below in lt-ltb w (2 ^ 63) (omega (arith, b))
 
-pairs_are : (xs ys : List ℕ) → list_all (λ w. nat_lt w 1005) xs ≡ true → list_all (λ w. nat_lt w 1005) ys ≡ true → list_all (λ words. length words == 2 && list_all is_word words) (in_pairs xs ys) ≡ true
+pairs_are : (xs ys : List ℕ) → list_all (λ w. nat_lt w 1005) xs ≡ true → list_all (λ w. nat_lt w 1005) ys ≡ true →
+    list_all (λ words. length words == 2 && list_all is_word words) (in_pairs xs ys) ≡ true
 pairs_are [] ys h k = refl
 pairs_are (x ∷ xs) [] h k = refl
 pairs_are (x ∷ xs) (y ∷ ys) h k =
     let one = both (nat_lt x 1005) (list_all (λ w. nat_lt w 1005) xs) h in
     let two = both (nat_lt y 1005) (list_all (λ w. nat_lt w 1005) ys) k in
-    and_true (is_word (pos x) && (is_word (pos y) && true)) (list_all (λ words. length words == 2 && list_all is_word words) (in_pairs xs ys))
-    (and_true (is_word (pos x)) (is_word (pos y) && true) (word_is x one.0) (and_true (is_word (pos y)) true (word_is y two.0) refl))
+    and_true (is_word (pos x) && (is_word (pos y) && true))
+    (list_all (λ words. length words == 2 && list_all is_word words) (in_pairs xs ys))
+    (and_true (is_word (pos x)) (is_word (pos y) && true) (word_is x one.0)
+    (and_true (is_word (pos y)) true (word_is y two.0) refl))
     (pairs_are xs ys one.1 two.1)
 
 seven : (x y : ℕ) → (length (in_pairs (sensor_words x) (sensor_words y)) == 7) ≡ true
 unfolding sensor_words draws
 seven x y = refl
 
-sensors_are : (count x : ℕ) → list_all (λ row. length row == 7 && list_all (λ words. length words == 2 && list_all is_word words) row) (sensor_rows count x) ≡ true
+sensors_are : (count x : ℕ) →
+    list_all (λ row. length row == 7 && list_all (λ words. length words == 2 && list_all is_word words) row)
+    (sensor_rows count x) ≡ true
 unfolding sensor_rows
 sensors_are zero x = refl
 sensors_are (suc count) x =
     let row = in_pairs (sensor_words x) (sensor_words (number_after 8 x)) in
-    and_true (length row == 7 && list_all (λ words. length words == 2 && list_all is_word words) row) (list_all (λ row. length row == 7 && list_all (λ words. length words == 2 && list_all is_word words) row) (sensor_rows count (number_after 16 x)))
-    (and_true (length row == 7) (list_all (λ words. length words == 2 && list_all is_word words) row) (seven x (number_after 8 x)) (pairs_are (sensor_words x) (sensor_words (number_after 8 x)) (words_below x) (words_below (number_after 8 x))))
+    and_true (length row == 7 && list_all (λ words. length words == 2 && list_all is_word words) row)
+    (list_all (λ row. length row == 7 && list_all (λ words. length words == 2 && list_all is_word words) row)
+    (sensor_rows count (number_after 16 x)))
+    (and_true (length row == 7) (list_all (λ words. length words == 2 && list_all is_word words) row)
+    (seven x (number_after 8 x))
+    (pairs_are (sensor_words x) (sensor_words (number_after 8 x)) (words_below x) (words_below (number_after 8 x))))
     (sensors_are count (number_after 16 x))
 
 -- ---- faults
@@ -103,15 +121,20 @@ receiver_is (suc (suc (suc (suc (suc zero))))) below = refl
 receiver_is (suc (suc (suc (suc (suc (suc zero)))))) below = refl
 receiver_is (suc (suc (suc (suc (suc (suc (suc p))))))) below = absurd (omega (arith, below))
 
-crash_is : (n q c : ℕ) (slot : Slot) → c < 400 → q < 7 → on_bus slot ≡ true → is_fault (demo_mission n) (crash q c slot) ≡ true
+crash_is : (n q c : ℕ) (slot : Slot) → c < 400 → q < 7 → on_bus slot ≡ true →
+    is_fault (demo_mission n) (crash q c slot) ≡ true
 unfolding demo_mission
-crash_is n q c slot early below h = and_true (nat_lt c 400 && nat_lt q 7) (on_bus slot) (and_true (nat_lt c 400) (nat_lt q 7) (lt-ltb c 400 early) (lt-ltb q 7 below)) h
+crash_is n q c slot early below h =
+    and_true (nat_lt c 400 && nat_lt q 7) (on_bus slot)
+    (and_true (nat_lt c 400) (nat_lt q 7) (lt-ltb c 400 early) (lt-ltb q 7 below)) h
 
 restart_is : (n q c : ℕ) → c < 400 → q < 7 → is_fault (demo_mission n) (restart q c) ≡ true
 unfolding demo_mission
 restart_is n q c early below = and_true (nat_lt c 400) (nat_lt q 7) (lt-ltb c 400 early) (lt-ltb q 7 below)
 
-loss_is : (n p c : ℕ) → c < 400 → p < 7 → is_fault (demo_mission n) (bus (record { cycle = c; slot = Vote; from = p; to = Some ((p + 1) % 7); act = lose })) ≡ true
+loss_is : (n p c : ℕ) → c < 400 → p < 7 →
+    is_fault (demo_mission n) (bus (record { cycle = c; slot = Vote; from = p; to = Some ((p + 1) % 7); act = lose }))
+    ≡ true
 unfolding demo_mission
 loss_is n p c early below =
     and_true (nat_lt c 400 && nat_lt p 7) (is_receiver 7 p (Some ((p + 1) % 7)) && true)
@@ -129,7 +152,8 @@ unfolding demo_script
 faults_are n zero k x few = refl
 faults_are n (suc count) k x few =
     let early : 40 * k + 30 < 400 = omega (arith, few) in
-    and_true _ _ (crash_is n _ (40 * k + 5) _ (omega (arith, early)) (below_seven (number_after 1 x)) (some_slot (drawn 9 (number_after 2 x))))
+    and_true _ _ (crash_is n _ (40 * k + 5) _ (omega (arith, early)) (below_seven (number_after 1 x))
+    (some_slot (drawn 9 (number_after 2 x))))
     (and_true _ _ (restart_is n _ (40 * k + 10) (omega (arith, early)) (below_seven (number_after 1 x)))
     (and_true _ _ (loss_is n _ (40 * k + 30) early (below_seven (number_after 3 x)))
     (faults_are n count (k + 1) (number_after 3 x) (omega (arith, few)))))
@@ -140,7 +164,8 @@ first_below : (n : ℕ) → nat_lt (first_block n) 128 ≡ true
 unfolding first_block
 first_below n = drawn_below 128 (next_number (number_after 128 n)) (omega arith)
 
-first_is : (block : ℕ) → nat_lt block 128 ≡ true → ((nat_lt block 128 && nat_lt 0 8) && ((nat_lt block 128 && nat_lt 1 8) && true)) ≡ true
+first_is : (block : ℕ) → nat_lt block 128 ≡ true →
+    ((nat_lt block 128 && nat_lt 0 8) && ((nat_lt block 128 && nat_lt 1 8) && true)) ≡ true
 first_is block below = rw below refl
 
 zeros_are : is_context 128 (zeroed 128) ≡ true
@@ -177,7 +202,8 @@ demo_is_mission n =
 
 -- ---- the rules for the bus
 
-rules_lose : (count k x : ℕ) → AllByRecursion (λ (rule : RuleValue). rule.act ≡ lose) (filter_map bus_rule (demo_script count k x))
+rules_lose : (count k x : ℕ) →
+    AllByRecursion (λ (rule : RuleValue). rule.act ≡ lose) (filter_map bus_rule (demo_script count k x))
 unfolding demo_script
 rules_lose zero k x = tt
 rules_lose (suc count) k x = (refl, rules_lose count (k + 1) (number_after 3 x))

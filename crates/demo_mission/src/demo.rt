@@ -58,7 +58,12 @@ fn made(table: Result<Table, TableFault>) -> Table
 
 /// The table of the tasks.
 fn demo_table(alloc: Global, draws: &mut Draws) -> Result<Table, AllocError>
-    ensures table { IfOk result (λ table. table ≡ record { rows = map (λ task. task ∷ []) (demo_tasks 4 0 draws.old.number); blocks = 128; width = 2 }) }
+    ensures table { IfOk result
+        (λ table. table ≡ record {
+          rows = map (λ task. task ∷ []) (demo_tasks 4 0 draws.old.number);
+          blocks = 128;
+          width = 2;
+        }) }
     ensures number { OnOk result (draws.new.number ≡ number_after 16 draws.old.number) }
 {
     let tasks = demo_tasks(alloc, draws)?;

@@ -36,7 +36,8 @@ fn slot_of(number: u64) -> Slot
 /// The vote frame of a channel to the one after it is lost.
 fn lost_vote(cycle: u32, from: u8) -> Fault
     requires { from < 7 }
-    ensures { fault_value result ≡ bus (record { cycle = cycle; slot = Vote; from = from; to = Some ((from + 1) % 7); act = lose }) }
+    ensures { fault_value result
+        ≡ bus (record { cycle = cycle; slot = Vote; from = from; to = Some ((from + 1) % 7); act = lose }) }
 {
     Fault::Bus(Rule {
         cycle,
@@ -51,7 +52,8 @@ fn lost_vote(cycle: u32, from: u8) -> Fault
 #[tactic(auto, unfolding(crate::specs::Demo::number_after))]
 fn push_faults(faults: &mut Faults, k: u32, draws: &mut Draws) -> Result<(), AllocError>
     requires { k < 10 }
-    ensures faults { OnOk result (map fault_value faults.new.items ≡ map fault_value faults.old.items ++ demo_script 1 k draws.old.number) }
+    ensures faults { OnOk result
+        (map fault_value faults.new.items ≡ map fault_value faults.old.items ++ demo_script 1 k draws.old.number) }
     ensures number { OnOk result (draws.new.number ≡ number_after 3 draws.old.number) }
 {
     let channel = draws.below(7) as u8;

@@ -41,7 +41,9 @@ fn pairs(alloc: Global, firsts: &[u16], seconds: &[u16]) -> Result<SensorRow, Al
 /// One row of sensor words.
 #[tactic(auto, unfolding(crate::specs::Demo::number_after))]
 fn sensor_row(alloc: Global, draws: &mut Draws) -> Result<SensorRow, AllocError>
-    ensures row { IfOk result (λ row. row.items ≡ map (padded 4) (in_pairs (sensor_words draws.old.number) (sensor_words (number_after 8 draws.old.number)))) }
+    ensures row { IfOk result
+        (λ row. row.items ≡ map (padded 4)
+        (in_pairs (sensor_words draws.old.number) (sensor_words (number_after 8 draws.old.number)))) }
     ensures number { OnOk result (draws.new.number ≡ number_after 16 draws.old.number) }
 {
     let firsts = sensor_words(alloc, draws)?;

@@ -26,7 +26,9 @@ fn sum(alloc: Global, block: u8, word: u8, place: u8) -> Result<Expr, AllocError
 
 /// The same within -1000 and 1000.
 fn bounded_sum(alloc: Global, block: u8) -> Result<Expr, AllocError>
-    ensures { IfOk result (λ expr. tree expr ≡ call codes.Sat (binary ops.Add (block_word block 1) (input 1)) (negative (number (pos 1000))) (number (pos 1000))) }
+    ensures { IfOk result (λ expr. tree expr
+        ≡ call codes.Sat (binary ops.Add (block_word block 1) (input 1)) (negative (number (pos 1000)))
+        (number (pos 1000))) }
 {
     let sum = Boxed::new(alloc, sum(alloc, block, 1, 1)?)?;
     let bound = Boxed::new(alloc, Expr::Number(1000))?;

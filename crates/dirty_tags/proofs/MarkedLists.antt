@@ -16,7 +16,8 @@ use Rattle.dirty_tags.specs.Marks.{is_marked, marked}
 
 -- ---- numbers of a range
 
-in_range_by : (a n b : ℕ) (same : Bool) → (a == b) ≡ same → (same || has (range_with_len (a + 1) n) b) ≡ true → (has (range_with_len (a + 1) n) b ≡ true → b < a + 1 + n) → b < a + suc n
+in_range_by : (a n b : ℕ) (same : Bool) → (a == b) ≡ same → (same || has (range_with_len (a + 1) n) b) ≡ true →
+    (has (range_with_len (a + 1) n) b ≡ true → b < a + 1 + n) → b < a + suc n
 in_range_by a n b true e h more = let same : a ≡ b = eqb-true a b e in omega (arith, same)
 in_range_by a n b false e h more = let later : b < a + 1 + n = more h in omega (arith, later)
 
@@ -33,7 +34,9 @@ drop_range a n zero =
     let long : n ≡ n - 0 = omega arith in
     ap (λ b. range_with_len b n) start ∙ ap (range_with_len (a + 0)) long
 drop_range a zero (suc k) = let none : 0 ≡ 0 - suc k = omega arith in ap (range_with_len (a + suc k)) none
-drop_range a (suc n) (suc k) = drop_range (a + 1) n k ∙ ap (λ b. range_with_len b (n - k)) (omega arith) ∙ ap (λ m. range_with_len (a + suc k) m) (omega arith)
+drop_range a (suc n) (suc k) =
+    drop_range (a + 1) n k ∙ ap (λ b. range_with_len b (n - k)) (omega arith)
+    ∙ ap (λ m. range_with_len (a + suc k) m) (omega arith)
 
 take_range : (a n k : ℕ) → k ≤ n → take k (range_with_len a n) ≡ range_with_len a k
 take_range a n zero h = refl
@@ -42,7 +45,8 @@ take_range a (suc n) (suc k) h = ap (λ xs. a ∷ xs) (take_range (a + 1) n k (o
 
 -- ---- marks
 
-pub marked_alike : (blocks : ℕ) (marks : List Bool) (test : ℕ → Bool) → ((b : ℕ) → b < blocks → is_marked marks b ≡ test b) →
+pub marked_alike : (blocks : ℕ) (marks : List Bool) (test : ℕ → Bool) →
+    ((b : ℕ) → b < blocks → is_marked marks b ≡ test b) →
     marked blocks marks ≡ filter test (numbers_below blocks)
 unfolding marked
 marked_alike blocks marks test alike =
@@ -54,10 +58,12 @@ unfolding marked
 has-marked blocks marks b h = kept_test (is_marked marks) blocks b (below_there blocks b h)
 
 pub all_marked : (blocks : ℕ) → blocks ≤ 256 → marked blocks (replicate 256 true) ≡ remaining_blocks blocks []
-all_marked blocks h = marked_alike blocks (replicate 256 true) (remains []) (λ b low. get_or-replicate 256 b true false (omega arith))
+all_marked blocks h = marked_alike blocks (replicate 256 true) (remains [])
+    (λ b low. get_or-replicate 256 b true false (omega arith))
 
 pub none_marked : (blocks : ℕ) → blocks ≤ 256 → marked blocks (replicate 256 false) ≡ blocks_in blocks []
-none_marked blocks h = marked_alike blocks (replicate 256 false) (has []) (λ b low. get_or-replicate 256 b false false (omega arith))
+none_marked blocks h = marked_alike blocks (replicate 256 false) (has [])
+    (λ b low. get_or-replicate 256 b false false (omega arith))
 
 pub empty_now : (blocks : ℕ) → blocks ≤ 256 → marked blocks (replicate 256 false) ≡ []
 empty_now blocks h = none_marked blocks h ∙ nothing (numbers_below blocks)
@@ -72,7 +78,8 @@ marked_there : (marks : List Bool) (block b : ℕ) (same : Bool) → (block == b
 marked_there marks block b true e h =
     let here : block ≡ b = eqb-true block b e in
     ap (is_marked (set marks block true)) (sym here) ∙ get_or-set_same marks block true false h
-marked_there marks block b false e h = get_or-set_other marks block b true false (λ same. differ (sym (eq-eqb block b (sym same)) ∙ e))
+marked_there marks block b false e h =
+    get_or-set_other marks block b true false (λ same. differ (sym (eq-eqb block b (sym same)) ∙ e))
   where
     differ : true ≡ false → ⊥
     differ h = cc
@@ -81,7 +88,8 @@ pub one_marked : (blocks : ℕ) (marks : List Bool) (block : ℕ) → block < le
     marked blocks (set marks block true) ≡ blocks_in blocks (block ∷ marked blocks marks)
 one_marked blocks marks block h =
     marked_alike blocks (set marks block true) (has (block ∷ marked blocks marks))
-    (λ b low. marked_there marks block b (block == b) refl h ∙ ap (λ t. (block == b) || t) (sym (has-marked blocks marks b low)))
+    (λ b low. marked_there marks block b (block == b) refl h
+    ∙ ap (λ t. (block == b) || t) (sym (has-marked blocks marks b low)))
 
 -- ---- the plan
 
@@ -91,16 +99,20 @@ take_twice (suc n) [] ys = refl
 take_twice (suc n) (x ∷ xs) ys = ap (λ zs. x ∷ zs) (take_twice n xs ys)
 
 pub cyclic_plan : (blocks cursor sweep : ℕ) (marks : List Bool) → cursor < blocks →
-    take sweep (take sweep (filter (is_marked marks) (range_with_len cursor (blocks - cursor))) ++ filter (is_marked marks) (range_with_len 0 (cursor - 0)))
+    take sweep (take sweep (filter (is_marked marks) (range_with_len cursor (blocks - cursor)))
+    ++ filter (is_marked marks) (range_with_len 0 (cursor - 0)))
     ≡ take sweep (filter (has (marked blocks marks)) (cyclic_from blocks cursor))
 cyclic_plan blocks cursor sweep marks h =
     let p = is_marked marks in
-    let late : drop cursor (numbers_below blocks) ≡ range_with_len cursor (blocks - cursor) = drop_range 0 blocks cursor ∙ ap (λ a. range_with_len a (blocks - cursor)) (omega arith) in
-    let early : take cursor (numbers_below blocks) ≡ range_with_len 0 (cursor - 0) = take_range 0 blocks cursor (omega arith) ∙ ap (range_with_len 0) (omega arith) in
+    let late : drop cursor (numbers_below blocks) ≡ range_with_len cursor (blocks - cursor) =
+    drop_range 0 blocks cursor ∙ ap (λ a. range_with_len a (blocks - cursor)) (omega arith) in
+    let early : take cursor (numbers_below blocks) ≡ range_with_len 0 (cursor - 0) =
+    take_range 0 blocks cursor (omega arith) ∙ ap (range_with_len 0) (omega arith) in
     take_twice sweep (filter p (range_with_len cursor (blocks - cursor))) (filter p (range_with_len 0 (cursor - 0)))
     ∙ ap (take sweep)
     (sym (filter-append p (range_with_len cursor (blocks - cursor)) (range_with_len 0 (cursor - 0)))
-    ∙ ap (filter p) (ap (λ xs. xs ++ range_with_len 0 (cursor - 0)) (sym late) ∙ ap (λ ys. drop cursor (numbers_below blocks) ++ ys) (sym early))
+    ∙ ap (filter p) (ap (λ xs. xs ++ range_with_len 0 (cursor - 0)) (sym late)
+    ∙ ap (λ ys. drop cursor (numbers_below blocks) ++ ys) (sym early))
     ∙ sym (filter_alike (has (marked blocks marks)) p (cyclic_from blocks cursor)
     (λ b k. has-marked blocks marks b (below_of blocks b (in_cycle blocks cursor b k)))))
 
@@ -115,11 +127,13 @@ pub whole_rest : (blocks most : ℕ) (marks : List Bool) → length (marked bloc
     take most (filter (is_marked marks) (range_with_len 0 (blocks - 0))) ≡ marked blocks marks
 unfolding marked
 whole_rest blocks most marks h =
-    ap (λ n. take most (filter (is_marked marks) (range_with_len 0 n))) (omega arith) ∙ take_all most (marked blocks marks) h
+    ap (λ n. take most (filter (is_marked marks) (range_with_len 0 n))) (omega arith)
+    ∙ take_all most (marked blocks marks) h
 
 -- ---- how many
 
-one_counted : (x : Bool) (a : ℕ) (rest : List ℕ) (xs : List Bool) → length rest ≡ count_by (λ m. m) xs → length (cond x (a ∷ rest) rest) ≡ count_by (λ m. m) (x ∷ xs)
+one_counted : (x : Bool) (a : ℕ) (rest : List ℕ) (xs : List Bool) → length rest ≡ count_by (λ m. m) xs →
+    length (cond x (a ∷ rest) rest) ≡ count_by (λ m. m) (x ∷ xs)
 one_counted true a rest xs h =
     let step : count_by (λ m. m) (true ∷ xs) ≡ 1 + count_by (λ m. m) xs = sum_by-cons (λ m. cond m 1 0) true xs in
     let more : suc (length rest) ≡ 1 + count_by (λ m. m) xs = omega (arith, h) in
@@ -129,7 +143,8 @@ one_counted false a rest xs h =
     let same : length rest ≡ 0 + count_by (λ m. m) xs = omega (arith, h) in
     same ∙ sym step
 
-count_marks : (marks : List Bool) (xs : List Bool) (a n : ℕ) → ((k : ℕ) → k < n → is_marked marks (a + k) ≡ get_or xs k false) → length xs ≡ n →
+count_marks : (marks : List Bool) (xs : List Bool) (a n : ℕ) →
+    ((k : ℕ) → k < n → is_marked marks (a + k) ≡ get_or xs k false) → length xs ≡ n →
     length (filter (is_marked marks) (range_with_len a n)) ≡ count_by (λ m. m) xs
 count_marks marks [] a zero same long = refl
 count_marks marks [] a (suc n) same long = absurd (omega arith)
@@ -137,8 +152,10 @@ count_marks marks (x ∷ xs) a zero same long = absurd (omega arith)
 count_marks marks (x ∷ xs) a (suc n) same long =
     let here : is_marked marks a ≡ x = ap (is_marked marks) (omega arith) ∙ same 0 (omega arith) in
     let rest : length (filter (is_marked marks) (range_with_len (a + 1) n)) ≡ count_by (λ m. m) xs
-    = count_marks marks xs (a + 1) n (λ k h. ap (is_marked marks) (omega arith) ∙ same (suc k) (omega arith)) (omega arith) in
-    ap (λ t. length (cond t (a ∷ filter (is_marked marks) (range_with_len (a + 1) n)) (filter (is_marked marks) (range_with_len (a + 1) n)))) here
+    = count_marks marks xs (a + 1) n (λ k h. ap (is_marked marks) (omega arith) ∙ same (suc k) (omega arith))
+    (omega arith) in
+    ap (λ t. length (cond t (a ∷ filter (is_marked marks) (range_with_len (a + 1) n))
+    (filter (is_marked marks) (range_with_len (a + 1) n)))) here
     ∙ one_counted x a (filter (is_marked marks) (range_with_len (a + 1) n)) xs rest
 
 get_or-take_below : (n k : ℕ) (xs : List Bool) → k < n → get_or (take n xs) k false ≡ get_or xs k false
@@ -147,7 +164,8 @@ get_or-take_below (suc n) k [] h = refl
 get_or-take_below (suc n) zero (x ∷ xs) h = refl
 get_or-take_below (suc n) (suc k) (x ∷ xs) h = get_or-take_below n k xs (omega arith)
 
-pub count_marked : (blocks : ℕ) (marks : List Bool) → blocks ≤ length marks → length (marked blocks marks) ≡ count_by (λ m. m) (take blocks marks)
+pub count_marked : (blocks : ℕ) (marks : List Bool) → blocks ≤ length marks →
+    length (marked blocks marks) ≡ count_by (λ m. m) (take blocks marks)
 unfolding marked
 count_marked blocks marks h =
     count_marks marks (take blocks marks) 0 blocks
@@ -178,15 +196,19 @@ abbrev pub seen : ℕ → ℕ → List Bool → List Bool → TagsValue
 seen blocks cursor remaining written =
     record { blocks = blocks; remaining = marked blocks remaining; cursor = cursor; written = marked blocks written }
 
-pub seen_all : (blocks : ℕ) (remaining written : List Bool) → remaining ≡ replicate 256 true → written ≡ replicate 256 false → blocks ≤ 256 →
+pub seen_all : (blocks : ℕ) (remaining written : List Bool) → remaining ≡ replicate 256 true →
+    written ≡ replicate 256 false → blocks ≤ 256 →
     seen blocks 0 remaining written ≡ tags_of blocks [] []
 unfolding tags_of
 seen_all blocks remaining written r w h =
     ap (λ xs. seen blocks 0 xs written) r ∙ ap (seen blocks 0 (replicate 256 true)) w
-    ∙ ap (λ xs. record { blocks = blocks; remaining = xs; cursor = 0; written = marked blocks (replicate 256 false) }) (all_marked blocks h)
-    ∙ ap (λ ys. record { blocks = blocks; remaining = remaining_blocks blocks []; cursor = 0; written = ys }) (none_marked blocks h)
+    ∙ ap (λ xs. record { blocks = blocks; remaining = xs; cursor = 0; written = marked blocks (replicate 256 false) })
+    (all_marked blocks h)
+    ∙ ap (λ ys. record { blocks = blocks; remaining = remaining_blocks blocks []; cursor = 0; written = ys })
+    (none_marked blocks h)
 
-module _ (blocks cursor : ℕ) (remaining written : List Bool) (t : TagsValue) (same : seen blocks cursor remaining written ≡ t) where
+module _ (blocks cursor : ℕ) (remaining written : List Bool) (t : TagsValue)
+    (same : seen blocks cursor remaining written ≡ t) where
   pub blocks_seen : t.blocks ≡ blocks
   blocks_seen = sym (ap (λ s. s.blocks) same)
 
@@ -199,14 +221,17 @@ module _ (blocks cursor : ℕ) (remaining written : List Bool) (t : TagsValue) (
   pub count_seen : blocks ≤ length remaining → count_by (λ m. m) (take blocks remaining) ≡ length t.remaining
   count_seen h = sym (count_marked blocks remaining h) ∙ ap length rest_seen
 
-  pub seen_written : (at block : ℕ) → at ≡ block → block < length written → seen blocks cursor remaining (set written at true) ≡ tags_written block t
+  pub seen_written : (at block : ℕ) → at ≡ block → block < length written →
+      seen blocks cursor remaining (set written at true) ≡ tags_written block t
   unfolding tags_written
   seen_written at block e h =
       ap (λ b. seen blocks cursor remaining (set written b true)) e
-      ∙ ap (λ ys. record { blocks = blocks; remaining = marked blocks remaining; cursor = cursor; written = ys }) (one_marked blocks written block h)
+      ∙ ap (λ ys. record { blocks = blocks; remaining = marked blocks remaining; cursor = cursor; written = ys })
+      (one_marked blocks written block h)
       ∙ ap (tags_written block) same
 
-  pub seen_noted : (list : List ℕ) (after : List Bool) → blocks ≤ 256 → ((b : ℕ) → b < 256 → is_marked after b ≡ (has list b || is_marked written b)) →
+  pub seen_noted : (list : List ℕ) (after : List Bool) → blocks ≤ 256 →
+      ((b : ℕ) → b < 256 → is_marked after b ≡ (has list b || is_marked written b)) →
       seen blocks cursor remaining after ≡ tags_noted list t
   unfolding tags_noted
   seen_noted list after most noted =
@@ -216,7 +241,8 @@ module _ (blocks cursor : ℕ) (remaining written : List Bool) (t : TagsValue) (
       ∙ ap (tags_noted list) same
 
   pub seen_plan : (sweep : ℕ) (plan : List ℕ) → cursor < blocks →
-      plan ≡ take sweep (take sweep (filter (is_marked remaining) (range_with_len cursor (blocks - cursor))) ++ filter (is_marked remaining) (range_with_len 0 (cursor - 0))) →
+      plan ≡ take sweep (take sweep (filter (is_marked remaining) (range_with_len cursor (blocks - cursor)))
+      ++ filter (is_marked remaining) (range_with_len 0 (cursor - 0))) →
       plan ≡ plan_by_tags sweep t
   unfolding plan_by_tags
   seen_plan sweep plan h e = e ∙ cyclic_plan blocks cursor sweep remaining h ∙ ap (plan_by_tags sweep) same
@@ -228,7 +254,8 @@ module _ (blocks cursor : ℕ) (remaining written : List Bool) (t : TagsValue) (
       seen blocks next after empty ≡ tags_closed plan t
   unfolding tags_closed
   seen_closed plan middle after empty next most unmarked merged none moved =
-      let test : ℕ → Bool = λ b. has (marked blocks written) b || (not (has plan b) && has (marked blocks remaining) b) in
+      let test : ℕ → Bool = λ b. has (marked blocks written) b
+      || (not (has plan b) && has (marked blocks remaining) b) in
       let alike : marked blocks after ≡ filter test (numbers_below blocks)
       = marked_alike blocks after test
       (λ b h. merged b (omega arith)
@@ -236,25 +263,35 @@ module _ (blocks cursor : ℕ) (remaining written : List Bool) (t : TagsValue) (
       ∙ ap (λ w. w || (not (has plan b) && is_marked remaining b)) (sym (has-marked blocks written b h))
       ∙ ap (λ r. has (marked blocks written) b || (not (has plan b) && r)) (sym (has-marked blocks remaining b h))) in
       ap (seen blocks next after) none
-      ∙ ap (λ ys. record { blocks = blocks; remaining = marked blocks after; cursor = next; written = ys }) (empty_now blocks most)
+      ∙ ap (λ ys. record { blocks = blocks; remaining = marked blocks after; cursor = next; written = ys })
+      (empty_now blocks most)
       ∙ ap (λ c. record { blocks = blocks; remaining = marked blocks after; cursor = c; written = [] }) moved
-      ∙ ap (λ xs. record { blocks = blocks; remaining = xs; cursor = cursor_after blocks cursor (last_or None plan); written = [] }) alike
+      ∙ ap (λ xs. record {
+        blocks = blocks;
+        remaining = xs;
+        cursor = cursor_after blocks cursor (last_or None plan);
+        written = [];
+      }) alike
       ∙ ap (tags_closed plan) same
 
 pub some_length : (xs : List ℕ) (b : Bool) → b ≡ (length xs == 0) → b ≡ false → 0 < length xs
 some_length xs b e f = grind (arith, e, f)
 
 -- what two gatherings in a row made, by the values of their arguments
-pub first_gathered : (f : List ℕ → List ℕ) (r : ℕ → ℕ → List ℕ) (plan none : List ℕ) (most sweep from cursor to blocks : ℕ) →
-    plan ≡ take most (none ++ f (r from (to - from))) → none ≡ [] → most ≡ sweep → from ≡ cursor → to ≡ blocks → plan ≡ take sweep (f (r cursor (blocks - cursor)))
+pub first_gathered : (f : List ℕ → List ℕ) (r : ℕ → ℕ → List ℕ) (plan none : List ℕ)
+    (most sweep from cursor to blocks : ℕ) →
+    plan ≡ take most (none ++ f (r from (to - from))) → none ≡ [] → most ≡ sweep → from ≡ cursor → to ≡ blocks →
+    plan ≡ take sweep (f (r cursor (blocks - cursor)))
 first_gathered f r plan none most sweep from cursor to blocks e n m s t =
     e ∙ ap (λ xs. take most (xs ++ f (r from (to - from)))) n ∙ ap (λ k. take k (f (r from (to - from)))) m
     ∙ ap (λ a. take sweep (f (r a (to - a)))) s ∙ ap (λ b. take sweep (f (r cursor (b - cursor)))) t
 
 pub then_gathered : (f : ℕ → List ℕ) (plan before known : List ℕ) (most sweep to cursor : ℕ) →
-    plan ≡ take most (before ++ f (to - 0)) → before ≡ known → most ≡ sweep → to ≡ cursor → plan ≡ take sweep (known ++ f (cursor - 0))
+    plan ≡ take most (before ++ f (to - 0)) → before ≡ known → most ≡ sweep → to ≡ cursor →
+    plan ≡ take sweep (known ++ f (cursor - 0))
 then_gathered f plan before known most sweep to cursor e b m t =
-    e ∙ ap (λ xs. take most (xs ++ f (to - 0))) b ∙ ap (λ k. take k (known ++ f (to - 0))) m ∙ ap (λ n. take sweep (known ++ f (n - 0))) t
+    e ∙ ap (λ xs. take most (xs ++ f (to - 0))) b ∙ ap (λ k. take k (known ++ f (to - 0))) m
+    ∙ ap (λ n. take sweep (known ++ f (n - 0))) t
 
 -- ---- what is planned is below the number of blocks
 
@@ -272,7 +309,8 @@ planned_below sweep t =
     (All-drop (λ b. b < t.blocks) t.cursor (numbers_below t.blocks) (All-numbers t.blocks))
     (All-take (λ b. b < t.blocks) t.cursor (numbers_below t.blocks) (All-numbers t.blocks))))
 
-pub rest_below : (blocks cursor : ℕ) (remaining written : List Bool) (t : TagsValue) → seen blocks cursor remaining written ≡ t → All (λ b. b < t.blocks) t.remaining
+pub rest_below : (blocks cursor : ℕ) (remaining written : List Bool) (t : TagsValue) →
+    seen blocks cursor remaining written ≡ t → All (λ b. b < t.blocks) t.remaining
 unfolding marked
 rest_below blocks cursor remaining written t same =
     let P : TagsValue → Type 0 = λ s. All (λ b. b < s.blocks) s.remaining in

@@ -27,7 +27,12 @@ impl Model for Tags {
 
     ghost Value = { TagsValue };
 
-    ghost view = { λ t. record { blocks = t.blocks; remaining = marked t.blocks t.remaining; cursor = t.cursor; written = marked t.blocks t.written } };
+    ghost view = { λ t. record {
+      blocks = t.blocks;
+      remaining = marked t.blocks t.remaining;
+      cursor = t.cursor;
+      written = marked t.blocks t.written;
+    } };
 
     ghost invariant = { λ t. IsTagFields t.blocks t.cursor };
 }
@@ -84,7 +89,8 @@ impl Tags {
     /// Notes writes to all blocks of a set in this cycle.
     pub fn wrote_all(&mut self, blocks: &BlockSet)
         ensures tags { self.new ≡ tags_noted blocks.now self.old }
-        ensures cycles { (cycles : List TransferCycle) → StandFor self.old cycles [] → StandFor self.new cycles blocks.now }
+        ensures cycles { (cycles : List TransferCycle) → StandFor self.old cycles [] →
+            StandFor self.new cycles blocks.now }
         ensures blocks { self.new.blocks ≡ self.old.blocks }
     {
         mark_all(&mut self.written, blocks);
@@ -94,7 +100,8 @@ impl Tags {
     pub fn close_cycle(&mut self, plan: &Plan) -> u16
         ensures tags { self.new ≡ tags_closed plan.now self.old }
         ensures cycles { (cycles : List TransferCycle) (written : List ℕ) →
-            StandFor self.old cycles written → StandFor self.new (record { planned = plan.now; written = written } ∷ cycles) [] }
+            StandFor self.old cycles written →
+            StandFor self.new (record { planned = plan.now; written = written } ∷ cycles) [] }
         ensures remaining { result ≡ length self.new.remaining }
         ensures blocks { self.new.blocks ≡ self.old.blocks }
     {

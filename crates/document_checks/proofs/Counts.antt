@@ -11,5 +11,6 @@ counted [] = refl
 counted (value ∷ values) = grind (arith, counted values)
 
 -- the test of one element more
-pub all_pushed : {A : Type 0} (test : A → Bool) (xs : List A) (x : A) → list_all test xs ≡ true → test x ≡ true → list_all test (xs ++ x ∷ []) ≡ true
+pub all_pushed : {A : Type 0} (test : A → Bool) (xs : List A) (x : A) → list_all test xs ≡ true → test x ≡ true →
+    list_all test (xs ++ x ∷ []) ≡ true
 all_pushed test xs x all one = rw (list_all-append test xs (x ∷ []), all, one) refl

@@ -142,7 +142,8 @@ fn has_only(known: &[&str], fields: &Table) -> bool
 }
 
 fn each_known(known: &[&str], fields: &Table) -> bool
-    ensures { result ≡ list_all (λ key. list_any (λ name. bytes_eq (string_bytes key) name.now) known.now) (keys fields.now) }
+    ensures { result ≡ list_all (λ key. list_any (λ name. bytes_eq (string_bytes key) name.now) known.now)
+        (keys fields.now) }
 {
     fields.keys().all(|key| is_known(known, key.as_str()))
 }

@@ -34,7 +34,8 @@ pub trait ElementReader {
         value: &Value,
     ) -> Result<Self::Element, ReadFault>
         ensures holds { IfOk result (λ x. IsTrue (Self.holds self.now x)) }
-        ensures exact { Gives (Self.meaning self.now) result (Self.check self.now (map (Self.meaning self.now) earlier.now) path.now (view value.now)) };
+        ensures exact { Gives (Self.meaning self.now) result
+            (Self.check self.now (map (Self.meaning self.now) earlier.now) path.now (view value.now)) };
 }
 
 /// Reads each element of an array, up to the first that fails.
@@ -44,7 +45,8 @@ pub fn each<R: ElementReader>(
     path: &str,
     items: &[Value],
 ) -> Result<Sequence<R::Element>, ReadFault>
-    ensures exact { Gives (λ list. map (R.meaning reader.now) list.items) result (each (R.check reader.now) path.now [] (items_view items.now)) }
+    ensures exact { Gives (λ list. map (R.meaning reader.now) list.items) result
+        (each (R.check reader.now) path.now [] (items_view items.now)) }
     ensures holds { IfOk result (λ list. IsTrue (list_all (R.holds reader.now) list.items)) }
     ensures count { IfOk result (λ list. length list.items ≡ length items.now) }
 {
@@ -64,7 +66,9 @@ fn next<R: ElementReader>(
     value: &Value,
 ) -> Result<R::Element, ReadFault>
     ensures holds { IfOk result (λ x. IsTrue (R.holds reader.now x)) }
-    ensures exact { Gives (R.meaning reader.now) result (R.check reader.now (map (R.meaning reader.now) earlier.now) (element path.now (length earlier.now)) (view value.now)) }
+    ensures exact { Gives (R.meaning reader.now) result
+        (R.check reader.now (map (R.meaning reader.now) earlier.now) (element path.now (length earlier.now))
+        (view value.now)) }
 {
     let place = element(alloc, path, earlier.len())?;
     reader.read(alloc, earlier, &place, value)

@@ -11,7 +11,8 @@ use toml::Table;
 
 /// The text that the bytes are.
 fn text_in(bytes: &[u8]) -> Option<&str>
-    ensures { MatchOption result (is_utf8 bytes.now ≡ false) (λ text. (is_utf8 bytes.now ≡ true) × (text.now ≡ bytes.now)) }
+    ensures { MatchOption result (is_utf8 bytes.now ≡ false)
+        (λ text. (is_utf8 bytes.now ≡ true) × (text.now ≡ bytes.now)) }
 {
     match std::str::from_utf8(bytes) {
         Ok(text) => Some(text),

@@ -21,7 +21,8 @@ pub tree_neg : (a : Expr) → tree (expr.Neg a) ≡ negative (tree a)
 tree_neg a = ap tree (sym (expr.rolls-Neg a)) ∙ fold-roll-Expr Expression node (Expr-F.Neg a)
 
 pub tree_native : (code : Code) (a b c : Expr) → tree (expr.Native code a b c) ≡ call code (tree a) (tree b) (tree c)
-tree_native code a b c = ap tree (sym (expr.rolls-Native code a b c)) ∙ fold-roll-Expr Expression node (Expr-F.Native code a b c)
+tree_native code a b c = ap tree (sym (expr.rolls-Native code a b c))
+    ∙ fold-roll-Expr Expression node (Expr-F.Native code a b c)
 
 pub tree_pick : (a b c : Expr) → tree (expr.Pick a b c) ≡ pick (tree a) (tree b) (tree c)
 tree_pick a b c = ap tree (sym (expr.rolls-Pick a b c)) ∙ fold-roll-Expr Expression node (Expr-F.Pick a b c)
@@ -41,7 +42,8 @@ abbrev IsTold : Expr → Type 0
 IsTold e = expr_of (tree e) ≡ e
 
 -- a node of which each part is told
-told : (H : Type 0) (f : H → Expr) (q : (h : H) → IsTold (f h)) (y : Expr-F H) → IsTold (roll-Expr (map-Expr H Expr f y))
+told : (H : Type 0) (f : H → Expr) (q : (h : H) → IsTold (f h)) (y : Expr-F H) →
+    IsTold (roll-Expr (map-Expr H Expr f y))
 told H f q (Expr-F.Number n) = ap expr_of (fold-roll-Expr Expression node (Expr-F.Number n)) ∙ sym (expr.rolls-Number n)
 told H f q Expr-F.Cycle = ap expr_of (fold-roll-Expr Expression node Expr-F.Cycle) ∙ sym expr.rolls-Cycle
 told H f q (Expr-F.Input k) = ap expr_of (fold-roll-Expr Expression node (Expr-F.Input k)) ∙ sym (expr.rolls-Input k)
@@ -50,13 +52,18 @@ told H f q (Expr-F.Neg a) =
     ap expr_of (fold-roll-Expr Expression node (Expr-F.Neg (f a))) ∙ ap expr.Neg (q a) ∙ sym (expr.rolls-Neg (f a))
 told H f q (Expr-F.Binary op a b) =
     ap expr_of (fold-roll-Expr Expression node (Expr-F.Binary op (f a) (f b)))
-    ∙ ap (λ x. expr.Binary op x (expr_of (tree (f b)))) (q a) ∙ ap (expr.Binary op (f a)) (q b) ∙ sym (expr.rolls-Binary op (f a) (f b))
+    ∙ ap (λ x. expr.Binary op x (expr_of (tree (f b)))) (q a) ∙ ap (expr.Binary op (f a)) (q b)
+    ∙ sym (expr.rolls-Binary op (f a) (f b))
 told H f q (Expr-F.Native code a b c) =
     ap expr_of (fold-roll-Expr Expression node (Expr-F.Native code (f a) (f b) (f c)))
-    ∙ ap (λ x. expr.Native code x (expr_of (tree (f b))) (expr_of (tree (f c)))) (q a) ∙ ap (λ x. expr.Native code (f a) x (expr_of (tree (f c)))) (q b) ∙ ap (expr.Native code (f a) (f b)) (q c) ∙ sym (expr.rolls-Native code (f a) (f b) (f c))
+    ∙ ap (λ x. expr.Native code x (expr_of (tree (f b))) (expr_of (tree (f c)))) (q a)
+    ∙ ap (λ x. expr.Native code (f a) x (expr_of (tree (f c)))) (q b) ∙ ap (expr.Native code (f a) (f b)) (q c)
+    ∙ sym (expr.rolls-Native code (f a) (f b) (f c))
 told H f q (Expr-F.Pick a b c) =
     ap expr_of (fold-roll-Expr Expression node (Expr-F.Pick (f a) (f b) (f c)))
-    ∙ ap (λ x. expr.Pick x (expr_of (tree (f b))) (expr_of (tree (f c)))) (q a) ∙ ap (λ x. expr.Pick (f a) x (expr_of (tree (f c)))) (q b) ∙ ap (expr.Pick (f a) (f b)) (q c) ∙ sym (expr.rolls-Pick (f a) (f b) (f c))
+    ∙ ap (λ x. expr.Pick x (expr_of (tree (f b))) (expr_of (tree (f c)))) (q a)
+    ∙ ap (λ x. expr.Pick (f a) x (expr_of (tree (f c)))) (q b) ∙ ap (expr.Pick (f a) (f b)) (q c)
+    ∙ sym (expr.rolls-Pick (f a) (f b) (f c))
 
 is_told : (e : Expr) → IsTold e
 is_told = ind-Expr IsTold (λ x y is. subst (λ z. IsTold (roll-Expr z)) is (told _ (λ e. e.0) (λ e. e.1) y))

@@ -8,5 +8,6 @@ word_is [] k = refl
 word_is (w ∷ words) zero = refl
 word_is (w ∷ words) (suc k) = word_is words k
 
-pub word_in_block : (ctx : ContextValue) (i j : ℕ) (words : BlockValue) → slice_get ctx i ≡ Some words → slice_index_or words j (pos 0) ≡ context_word ctx i j
+pub word_in_block : (ctx : ContextValue) (i j : ℕ) (words : BlockValue) → slice_get ctx i ≡ Some words →
+    slice_index_or words j (pos 0) ≡ context_word ctx i j
 word_in_block ctx i j words is = word_is words j ∙ ap (λ block. word_of (unwrap_or block zero_block) j) (sym is)

@@ -38,8 +38,10 @@ written gap (input place) = atom (input_token gap place)
 written gap (block_word block place) = atom (word_token gap block place)
 written gap (negative a) = minus gap (written 0 a)
 written gap (binary op a b) = atom (group gap (joined_by op (written 0 a) (written 1 b)) 0)
-written gap (call code a b c) = atom (call_form gap (called.Native code) 0 (alone (written 0 a)) 0 (alone (written 1 b)) 0 (alone (written 1 c)) 0)
-written gap (pick a b c) = atom (call_form gap called.Pick 0 (alone (written 0 a)) 0 (alone (written 1 b)) 0 (alone (written 1 c)) 0)
+written gap (call code a b c) =
+    atom (call_form gap (called.Native code) 0 (alone (written 0 a)) 0 (alone (written 1 b)) 0 (alone (written 1 c)) 0)
+written gap (pick a b c) =
+    atom (call_form gap called.Pick 0 (alone (written 0 a)) 0 (alone (written 1 b)) 0 (alone (written 1 c)) 0)
 
 module _ (sizes : Sizes) (few_blocks : sizes.blocks ≤ 256) where
   -- what each expression of the grammar meets
@@ -77,7 +79,8 @@ module _ (sizes : Sizes) (few_blocks : sizes.blocks ≤ 256) where
     atom_in (input_token gap place) h = h
     atom_in (word_token gap block place) h = h
     atom_in (group gap s end_gap) h = sum_in s h
-    atom_in (call_form gap f open_gap a first_gap b second_gap c end_gap) h = called_in f (sum_tree a) (sum_tree b) (sum_tree c) (sum_in a h.0) (sum_in b h.1) (sum_in c h.2)
+    atom_in (call_form gap f open_gap a first_gap b second_gap c end_gap) h =
+        called_in f (sum_tree a) (sum_tree b) (sum_tree c) (sum_in a h.0) (sum_in b h.1) (sum_in c h.2)
 
   pub read_in : (text : List ℕ) (e : Expression) → SpellsExpression sizes text e → TreeIn e
   read_in text e h = subst TreeIn h.tree_is (sum_in h.sum h.valid)
@@ -110,7 +113,8 @@ module _ (sizes : Sizes) (few_blocks : sizes.blocks ≤ 256) where
   written_valid gap (input place) h = h
   written_valid gap (block_word block place) h = h
   written_valid gap (negative a) h = written_valid 0 a h
-  written_valid gap (binary op a b) h = joined_valid op (written 0 a) (written 1 b) (written_valid 0 a h.0) (written_valid 1 b h.1)
+  written_valid gap (binary op a b) h =
+      joined_valid op (written 0 a) (written 1 b) (written_valid 0 a h.0) (written_valid 1 b h.1)
   written_valid gap (call code a b c) h = (written_valid 0 a h.0, written_valid 1 b h.1, written_valid 1 c h.2)
   written_valid gap (pick a b c) h = (written_valid 0 a h.0, written_valid 1 b h.1, written_valid 1 c h.2)
 
@@ -121,11 +125,16 @@ module _ (sizes : Sizes) (few_blocks : sizes.blocks ≤ 256) where
   written_tree gap (input place) h = refl
   written_tree gap (block_word block place) h = refl
   written_tree gap (negative a) h = ap negative (written_tree 0 a h)
-  written_tree gap (binary op a b) h = joined_tree op (written 0 a) (written 1 b) ∙ (let x = written_tree 0 a h.0 in let y = written_tree 1 b h.1 in cc)
-  written_tree gap (call code a b c) h = let x = written_tree 0 a h.0 in let y = written_tree 1 b h.1 in let z = written_tree 1 c h.2 in cc
-  written_tree gap (pick a b c) h = let x = written_tree 0 a h.0 in let y = written_tree 1 b h.1 in let z = written_tree 1 c h.2 in cc
+  written_tree gap (binary op a b) h =
+      joined_tree op (written 0 a) (written 1 b) ∙ (let x = written_tree 0 a h.0 in let y = written_tree 1 b h.1 in cc)
+  written_tree gap (call code a b c) h = let x = written_tree 0 a h.0 in let y = written_tree 1 b h.1 in let z =
+      written_tree 1 c h.2 in cc
+  written_tree gap (pick a b c) h = let x = written_tree 0 a h.0 in let y = written_tree 1 b h.1 in let z =
+      written_tree 1 c h.2 in cc
 
-  call_written : (gap : ℕ) (f : Function) (a b c : Factor) (x y z : List ℕ) → factor_text a ≡ x → factor_text b ≡ 32 ∷ y → factor_text c ≡ 32 ∷ z → atom_text (call_form gap f 0 (alone a) 0 (alone b) 0 (alone c) 0) ≡ spaces gap ++ call_text f x y z
+  call_written : (gap : ℕ) (f : Function) (a b c : Factor) (x y z : List ℕ) → factor_text a ≡ x →
+      factor_text b ≡ 32 ∷ y → factor_text c ≡ 32 ∷ z →
+      atom_text (call_form gap f 0 (alone a) 0 (alone b) 0 (alone c) 0) ≡ spaces gap ++ call_text f x y z
   call_written gap f a b c x y z p q r =
       ap (λ t. spaces gap ++ (letters f ++ 40 ∷ (t ++ 44 ∷ (factor_text b ++ 44 ∷ (factor_text c ++ 41 ∷ []))))) p
       ∙ ap (λ t. spaces gap ++ (letters f ++ 40 ∷ (x ++ 44 ∷ (t ++ 44 ∷ (factor_text c ++ 41 ∷ []))))) q
@@ -136,15 +145,23 @@ module _ (sizes : Sizes) (few_blocks : sizes.blocks ≤ 256) where
   written_text gap (number (negsuc n)) h = absurd h
   written_text gap cycle_number h = refl
   written_text gap (input place) h = ap (λ t. spaces gap ++ (codes "in" ++ t)) (sym (decimal_digit place h.0))
-  written_text gap (block_word block place) h = ap (λ t. spaces gap ++ (codes "b" ++ (decimal block ++ 46 ∷ t))) (sym (decimal_digit place (omega (arith, h.1))))
+  written_text gap (block_word block place) h =
+      ap (λ t. spaces gap ++ (codes "b" ++ (decimal block ++ 46 ∷ t))) (sym (decimal_digit place (omega (arith, h.1))))
   written_text gap (negative a) h = ap (λ t. spaces gap ++ 45 ∷ t) (written_text 0 a h)
   written_text gap (binary op a b) h =
       let inner = joined_text op (written 0 a) (written 1 b) in
-      let regroup : (canonical a ++ 32 ∷ sign op ∷ 32 ∷ canonical b) ++ 41 ∷ [] ≡ canonical a ++ 32 ∷ sign op ∷ 32 ∷ (canonical b ++ 41 ∷ []) = simp append_assoc in
-      ap (λ t. spaces gap ++ 40 ∷ (t ++ 41 ∷ [])) (inner ∙ ap (λ t. t ++ 32 ∷ sign op ∷ factor_text (written 1 b)) (written_text 0 a h.0) ∙ ap (λ t. canonical a ++ 32 ∷ sign op ∷ t) (written_text 1 b h.1))
+      let regroup : (canonical a ++ 32 ∷ sign op ∷ 32 ∷ canonical b) ++ 41 ∷ []
+      ≡ canonical a ++ 32 ∷ sign op ∷ 32 ∷ (canonical b ++ 41 ∷ []) = simp append_assoc in
+      ap (λ t. spaces gap ++ 40 ∷ (t ++ 41 ∷ []))
+      (inner ∙ ap (λ t. t ++ 32 ∷ sign op ∷ factor_text (written 1 b)) (written_text 0 a h.0)
+      ∙ ap (λ t. canonical a ++ 32 ∷ sign op ∷ t) (written_text 1 b h.1))
       ∙ ap (λ t. spaces gap ++ 40 ∷ t) regroup
-  written_text gap (call code a b c) h = call_written gap (called.Native code) (written 0 a) (written 1 b) (written 1 c) (canonical a) (canonical b) (canonical c) (written_text 0 a h.0) (written_text 1 b h.1) (written_text 1 c h.2)
-  written_text gap (pick a b c) h = call_written gap called.Pick (written 0 a) (written 1 b) (written 1 c) (canonical a) (canonical b) (canonical c) (written_text 0 a h.0) (written_text 1 b h.1) (written_text 1 c h.2)
+  written_text gap (call code a b c) h =
+      call_written gap (called.Native code) (written 0 a) (written 1 b) (written 1 c) (canonical a) (canonical b)
+      (canonical c) (written_text 0 a h.0) (written_text 1 b h.1) (written_text 1 c h.2)
+  written_text gap (pick a b c) h =
+      call_written gap called.Pick (written 0 a) (written 1 b) (written 1 c) (canonical a) (canonical b) (canonical c)
+      (written_text 0 a h.0) (written_text 1 b h.1) (written_text 1 c h.2)
 
   pub canonical_spells : (e : Expression) → TreeIn e → SpellsExpression sizes (canonical e) e
   canonical_spells e h = record {
@@ -170,12 +187,33 @@ module _ (sizes : Sizes) (few_blocks : sizes.blocks ≤ 256) where
   canonical_length (number (pos n)) h = omega (arith, length-decimal-le 19 n (omega arith) (omega arith) (omega arith))
   canonical_length (number (negsuc n)) h = absurd h
   canonical_length cycle_number h = omega arith
-  canonical_length (input place) h = simp length-append (omega (arith, length-decimal-le 1 place (omega arith) (omega arith) (omega arith)))
-  canonical_length (block_word block place) h = simp length-append (omega (arith, length-decimal-le 3 block (omega arith) (omega arith) (omega arith), length-decimal-le 1 place (omega arith) (omega arith) (omega arith)))
+  canonical_length (input place) h =
+      simp length-append (omega (arith, length-decimal-le 1 place (omega arith) (omega arith) (omega arith)))
+  canonical_length (block_word block place) h =
+      simp length-append (omega (
+        arith,
+        length-decimal-le 3 block (omega arith) (omega arith) (omega arith),
+        length-decimal-le 1 place (omega arith) (omega arith) (omega arith),
+      ))
   canonical_length (negative a) h = omega (arith, canonical_length a h)
-  canonical_length (binary op a b) h = simp length-append (omega (arith, canonical_length a h.0, canonical_length b h.1))
-  canonical_length (call code a b c) h = omega (arith, call_length (called.Native code) (canonical a) (canonical b) (canonical c), canonical_length a h.0, canonical_length b h.1, canonical_length c h.2)
-  canonical_length (pick a b c) h = omega (arith, call_length called.Pick (canonical a) (canonical b) (canonical c), canonical_length a h.0, canonical_length b h.1, canonical_length c h.2)
+  canonical_length (binary op a b) h =
+      simp length-append (omega (arith, canonical_length a h.0, canonical_length b h.1))
+  canonical_length (call code a b c) h =
+      omega (
+        arith,
+        call_length (called.Native code) (canonical a) (canonical b) (canonical c),
+        canonical_length a h.0,
+        canonical_length b h.1,
+        canonical_length c h.2,
+      )
+  canonical_length (pick a b c) h =
+      omega (
+        arith,
+        call_length called.Pick (canonical a) (canonical b) (canonical c),
+        canonical_length a h.0,
+        canonical_length b h.1,
+        canonical_length c h.2,
+      )
 
   pub read_again : (text : List ℕ) (e : Expression) → IsRead sizes text e → IsRead sizes (canonical e) e
   read_again text e h =

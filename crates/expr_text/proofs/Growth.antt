@@ -18,7 +18,8 @@ use Rattle.expr_text.proofs.Bytes.{cond_by}
 use Rattle.expr_text.proofs.Sound.{with_number_by}
 
 module _ (sizes : Sizes) (few_blocks : sizes.blocks ≤ 256) where
-  called_nodes : (f : Function) (a b c : Expression) → node_count (called_with f a b c) ≡ node_count a + node_count b + node_count c + 1
+  called_nodes : (f : Function) (a b c : Expression) →
+      node_count (called_with f a b c) ≡ node_count a + node_count b + node_count c + 1
   called_nodes (called.Native code) a b c = refl
   called_nodes called.Pick a b c = refl
 
@@ -29,7 +30,8 @@ module _ (sizes : Sizes) (few_blocks : sizes.blocks ≤ 256) where
 
     product_nodes : (p : Product) → ProductIn sizes p → node_count (product_tree p) ≤ length (product_text p)
     product_nodes (factor f) h = factor_nodes f h
-    product_nodes (product_and p gap op f) h = simp length-append (omega (arith, product_nodes p h.0, factor_nodes f h.2))
+    product_nodes (product_and p gap op f) h =
+        simp length-append (omega (arith, product_nodes p h.0, factor_nodes f h.2))
 
     factor_nodes : (f : Factor) → FactorIn sizes f → node_count (factor_tree f) ≤ length (factor_text f)
     factor_nodes (atom a) h = atom_nodes a h
@@ -46,7 +48,8 @@ module _ (sizes : Sizes) (few_blocks : sizes.blocks ≤ 256) where
 
   pub nodes_within : (text : List ℕ) (e : Expression) → SpellsExpression sizes text e → node_count e ≤ length text
   nodes_within text e h =
-      let all : length text ≡ length (sum_text h.sum) + length (spaces h.end_gap) = ap length h.text_is ∙ length-append (sum_text h.sum) (spaces h.end_gap) in
+      let all : length text ≡ length (sum_text h.sum) + length (spaces h.end_gap) =
+      ap length h.text_is ∙ length-append (sum_text h.sum) (spaces h.end_gap) in
       let same : node_count (sum_tree h.sum) ≡ node_count e = ap node_count h.tree_is in
       omega (arith, sum_nodes h.sum h.valid)
 
@@ -56,7 +59,8 @@ module _ (sizes : Sizes) (few_blocks : sizes.blocks ≤ 256) where
   Within n None = Unit {0}
   Within n (Some s) = minuses_of s ≤ n
 
-  spelled_minuses : (frames : List Frame) (level : Level) (k : Keyword) (rest : List ℕ) (n : ℕ) → level.minuses ≤ n → minuses_of (keyword_spelled frames level k rest) ≤ n
+  spelled_minuses : (frames : List Frame) (level : Level) (k : Keyword) (rest : List ℕ) (n : ℕ) → level.minuses ≤ n →
+      minuses_of (keyword_spelled frames level k rest) ≤ n
   spelled_minuses frames level keyword.Cycle [] n h = omega arith
   spelled_minuses frames level keyword.Input [] n h = h
   spelled_minuses frames level keyword.Block [] n h = h
@@ -83,7 +87,8 @@ module _ (sizes : Sizes) (few_blocks : sizes.blocks ≤ 256) where
       go (Second f a) = omega arith
       go (Third f a b) = tt
 
-  at_end_minuses : (frames : List Frame) (sum : Pending) (made : Expression) (k : Kind) (n : ℕ) → Within n (at_end frames sum made k)
+  at_end_minuses : (frames : List Frame) (sum : Pending) (made : Expression) (k : Kind) (n : ℕ) →
+      Within n (at_end frames sum made k)
   at_end_minuses frames sum made Space n = omega arith
   at_end_minuses frames sum made (Sign Add) n = omega arith
   at_end_minuses frames sum made (Sign Sub) n = omega arith
@@ -98,7 +103,8 @@ module _ (sizes : Sizes) (few_blocks : sizes.blocks ≤ 256) where
   at_end_minuses frames sum made (Letter x) n = tt
   at_end_minuses frames sum made Other n = tt
 
-  at_start_minuses : (frames : List Frame) (level : Level) (k : Kind) → Within (suc level.minuses) (at_start sizes frames level k)
+  at_start_minuses : (frames : List Frame) (level : Level) (k : Kind) →
+      Within (suc level.minuses) (at_start sizes frames level k)
   at_start_minuses frames level Space = omega arith
   at_start_minuses frames level (Sign Sub) = omega arith
   at_start_minuses frames level (Sign Add) = tt
@@ -120,25 +126,38 @@ module _ (sizes : Sizes) (few_blocks : sizes.blocks ≤ 256) where
   after_minuses : (s : State) (k : Kind) → Within (suc (minuses_of s)) (after sizes s k)
   after_minuses (Operator frames sum made) k = at_end_minuses frames sum made k 1
   after_minuses (Operand frames level Start) k = at_start_minuses frames level k
-  after_minuses (Operand frames level (Digits n)) (Digit d) = with_number_by (Within (suc level.minuses)) (λ m. Operand frames level (Digits m)) (2 ^ 63) n d tt (λ _ _. omega arith)
-  after_minuses (Operand frames level (Digits n)) Space = at_end_minuses frames level.sum (factored level (number (pos n))) Space (suc level.minuses)
-  after_minuses (Operand frames level (Digits n)) (Sign op) = at_end_minuses frames level.sum (factored level (number (pos n))) (Sign op) (suc level.minuses)
+  after_minuses (Operand frames level (Digits n)) (Digit d) =
+      with_number_by (Within (suc level.minuses)) (λ m. Operand frames level (Digits m)) (2 ^ 63) n d tt
+      (λ _ _. omega arith)
+  after_minuses (Operand frames level (Digits n)) Space =
+      at_end_minuses frames level.sum (factored level (number (pos n))) Space (suc level.minuses)
+  after_minuses (Operand frames level (Digits n)) (Sign op) =
+      at_end_minuses frames level.sum (factored level (number (pos n))) (Sign op) (suc level.minuses)
   after_minuses (Operand frames level (Digits n)) Open = tt
-  after_minuses (Operand frames level (Digits n)) Close = at_end_minuses frames level.sum (factored level (number (pos n))) Close (suc level.minuses)
-  after_minuses (Operand frames level (Digits n)) Comma = at_end_minuses frames level.sum (factored level (number (pos n))) Comma (suc level.minuses)
+  after_minuses (Operand frames level (Digits n)) Close =
+      at_end_minuses frames level.sum (factored level (number (pos n))) Close (suc level.minuses)
+  after_minuses (Operand frames level (Digits n)) Comma =
+      at_end_minuses frames level.sum (factored level (number (pos n))) Comma (suc level.minuses)
   after_minuses (Operand frames level (Digits n)) Dot = tt
   after_minuses (Operand frames level (Digits n)) (Letter x) = tt
   after_minuses (Operand frames level (Digits n)) Other = tt
-  after_minuses (Operand frames level (Letters k next rest)) (Letter x) = cond_by (Within (suc level.minuses)) (nat_eq x next) _ _ (λ _. spelled_minuses frames level k rest (suc level.minuses) (omega arith)) (λ _. tt)
+  after_minuses (Operand frames level (Letters k next rest)) (Letter x) =
+      cond_by (Within (suc level.minuses)) (nat_eq x next) _ _
+      (λ _. spelled_minuses frames level k rest (suc level.minuses) (omega arith)) (λ _. tt)
   after_minuses (Operand frames level (Letters k next rest)) _ = tt
-  after_minuses (Operand frames level InputDigit) (Digit d) = cond_by (Within (suc level.minuses)) (nat_lt d sizes.width) _ _ (λ _. omega arith) (λ _. tt)
+  after_minuses (Operand frames level InputDigit) (Digit d) =
+      cond_by (Within (suc level.minuses)) (nat_lt d sizes.width) _ _ (λ _. omega arith) (λ _. tt)
   after_minuses (Operand frames level InputDigit) _ = tt
-  after_minuses (Operand frames level BlockStart) (Digit d) = cond_by (Within (suc level.minuses)) (nat_lt d sizes.blocks) _ _ (λ _. omega arith) (λ _. tt)
+  after_minuses (Operand frames level BlockStart) (Digit d) =
+      cond_by (Within (suc level.minuses)) (nat_lt d sizes.blocks) _ _ (λ _. omega arith) (λ _. tt)
   after_minuses (Operand frames level BlockStart) _ = tt
-  after_minuses (Operand frames level (BlockDigits n)) (Digit d) = with_number_by (Within (suc level.minuses)) (λ m. Operand frames level (BlockDigits m)) sizes.blocks n d tt (λ _ _. omega arith)
+  after_minuses (Operand frames level (BlockDigits n)) (Digit d) =
+      with_number_by (Within (suc level.minuses)) (λ m. Operand frames level (BlockDigits m)) sizes.blocks n d tt
+      (λ _ _. omega arith)
   after_minuses (Operand frames level (BlockDigits n)) Dot = omega arith
   after_minuses (Operand frames level (BlockDigits n)) _ = tt
-  after_minuses (Operand frames level (WordDigit n)) (Digit d) = cond_by (Within (suc level.minuses)) (nat_lt d 8) _ _ (λ _. omega arith) (λ _. tt)
+  after_minuses (Operand frames level (WordDigit n)) (Digit d) =
+      cond_by (Within (suc level.minuses)) (nat_lt d 8) _ _ (λ _. omega arith) (λ _. tt)
   after_minuses (Operand frames level (WordDigit n)) _ = tt
   after_minuses (Operand frames level (Parenthesis f)) Space = omega arith
   after_minuses (Operand frames level (Parenthesis f)) Open = omega arith
@@ -150,8 +169,11 @@ module _ (sizes : Sizes) (few_blocks : sizes.blocks ≤ 256) where
 
   pub run_minuses : (bytes : List ℕ) (s : State) → Within (minuses_of s + length bytes) (run sizes bytes s)
   run_minuses [] s = omega arith
-  run_minuses (byte ∷ bytes) s = go (run_minuses bytes) (after sizes s (byte_kind byte)) (after_minuses s (byte_kind byte))
+  run_minuses (byte ∷ bytes) s =
+      go (run_minuses bytes) (after sizes s (byte_kind byte)) (after_minuses s (byte_kind byte))
     where
-      go : ((t : State) → Within (minuses_of t + length bytes) (run sizes bytes t)) → (o : Option State) → Within (suc (minuses_of s)) o → Within (minuses_of s + length (byte ∷ bytes)) (and_then (run sizes bytes) o)
+      go : ((t : State) → Within (minuses_of t + length bytes) (run sizes bytes t)) → (o : Option State) →
+          Within (suc (minuses_of s)) o → Within (minuses_of s + length (byte ∷ bytes)) (and_then (run sizes bytes) o)
       go ih None w = tt
-      go ih (Some t) w = wider (minuses_of t + length bytes) (minuses_of s + length (byte ∷ bytes)) (run sizes bytes t) (omega arith) (ih t)
+      go ih (Some t) w = wider (minuses_of t + length bytes) (minuses_of s + length (byte ∷ bytes)) (run sizes bytes t)
+          (omega arith) (ih t)

@@ -22,12 +22,19 @@ module _ (sizes : Sizes) (few_blocks : sizes.blocks ≤ 256) where
   tree_fits (number (negsuc n)) h = absurd h
   tree_fits cycle_number h = refl
   tree_fits (input place) h = le-leb (suc place) sizes.width h.1
-  tree_fits (block_word block place) h = and_true (nat_lt block sizes.blocks) (nat_lt place 8) (le-leb (suc block) sizes.blocks h.0) (le-leb (suc place) 8 h.1)
+  tree_fits (block_word block place) h =
+      and_true (nat_lt block sizes.blocks) (nat_lt place 8) (le-leb (suc block) sizes.blocks h.0)
+      (le-leb (suc place) 8 h.1)
   tree_fits (negative a) h = tree_fits a h
   tree_fits (binary op a b) h = and_true (fits a) (fits b) (tree_fits a h.0) (tree_fits b h.1)
-  tree_fits (call code a b c) h = and_true (fits a && fits b) (fits c) (and_true (fits a) (fits b) (tree_fits a h.0) (tree_fits b h.1)) (tree_fits c h.2)
-  tree_fits (pick a b c) h = and_true (fits a && fits b) (fits c) (and_true (fits a) (fits b) (tree_fits a h.0) (tree_fits b h.1)) (tree_fits c h.2)
+  tree_fits (call code a b c) h =
+      and_true (fits a && fits b) (fits c) (and_true (fits a) (fits b) (tree_fits a h.0) (tree_fits b h.1))
+      (tree_fits c h.2)
+  tree_fits (pick a b c) h =
+      and_true (fits a && fits b) (fits c) (and_true (fits a) (fits b) (tree_fits a h.0) (tree_fits b h.1))
+      (tree_fits c h.2)
 
-  pub answer_fits : (text : List ℕ) (r : Result Expr ExprFault) → Parses sizes text r → IfOk r (λ e. IsTrue (fits_sizes sizes.blocks sizes.width (tree e)))
+  pub answer_fits : (text : List ℕ) (r : Result Expr ExprFault) → Parses sizes text r →
+      IfOk r (λ e. IsTrue (fits_sizes sizes.blocks sizes.width (tree e)))
   answer_fits text (Ok e) h = tree_fits (tree e) (read_in sizes few_blocks text (tree e) h.spelled)
   answer_fits text (Err fault) h = tt

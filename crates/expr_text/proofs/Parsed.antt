@@ -34,13 +34,16 @@ module _ (sizes : Sizes) (few_blocks : sizes.blocks ≤ 256) (text : List ℕ) w
   Says (Err Memory) = ⊥
 
   module _ (short : length text ≤ 1100) where
-    end_says : (s : State) → run sizes text initial ≡ Some s → (o : Option Expression) → finished s ≡ o → ReadSays (ended (length text) o)
+    end_says : (s : State) → run sizes text initial ≡ Some s → (o : Option Expression) → finished s ≡ o →
+        ReadSays (ended (length text) o)
     end_says s all None e = refused_at_end sizes few_blocks text s short all (sym e)
     end_says s all (Some x) e = spelled_at_end sizes few_blocks text s x all (sym e)
 
     -- what comes of the next byte, if what comes behind it is known
-    read_on : (byte : ℕ) (bytes : List ℕ) (at : ℕ) (s : State) → drop at text ≡ byte ∷ bytes → at + length (byte ∷ bytes) ≡ length text → run sizes (take at text) initial ≡ Some s →
-        ((next : State) → drop (at + 1) text ≡ bytes → run sizes (take (at + 1) text) initial ≡ Some next → ReadSays (read_from sizes bytes (at + 1) next)) →
+    read_on : (byte : ℕ) (bytes : List ℕ) (at : ℕ) (s : State) → drop at text ≡ byte ∷ bytes →
+        at + length (byte ∷ bytes) ≡ length text → run sizes (take at text) initial ≡ Some s →
+        ((next : State) → drop (at + 1) text ≡ bytes → run sizes (take (at + 1) text) initial ≡ Some next →
+        ReadSays (read_from sizes bytes (at + 1) next)) →
         ReadSays (gone_on at (read_from sizes bytes (at + 1)) (after sizes s (byte_kind byte)))
     read_on byte bytes at s rest size before further = by (after sizes s (byte_kind byte)) refl
       where
@@ -66,10 +69,13 @@ module _ (sizes : Sizes) (few_blocks : sizes.blocks ≤ 256) (text : List ℕ) w
         behind : drop (at + 1) text ≡ bytes
         behind = ap (λ n. drop n text) next_place ∙ drop_one text at ∙ ap (drop 1) rest
 
-        by : (o : Option State) → after sizes s (byte_kind byte) ≡ o → ReadSays (gone_on at (read_from sizes bytes (at + 1)) o)
-        by None e = refused_here sizes few_blocks text at s short here before (sym e ∙ ap (λ b. after sizes s (byte_kind b)) (sym this))
+        by : (o : Option State) → after sizes s (byte_kind byte) ≡ o →
+            ReadSays (gone_on at (read_from sizes bytes (at + 1)) o)
+        by None e = refused_here sizes few_blocks text at s short here before
+            (sym e ∙ ap (λ b. after sizes s (byte_kind b)) (sym this))
         by (Some next) e =
-            further next behind (run_step sizes text at s (Some next) here before (sym e ∙ ap (λ b. after sizes s (byte_kind b)) (sym this)))
+            further next behind (run_step sizes text at s (Some next) here before
+            (sym e ∙ ap (λ b. after sizes s (byte_kind b)) (sym this)))
 
     whole_text : (at : ℕ) → at ≡ length text → take at text ≡ text
     whole_text at e = ap (λ n. take n text) e ∙ taken text
@@ -78,12 +84,15 @@ module _ (sizes : Sizes) (few_blocks : sizes.blocks ≤ 256) (text : List ℕ) w
         taken [] = refl
         taken (x ∷ xs) = ap (λ ys. x ∷ ys) (taken xs)
 
-    read_says : (bytes : List ℕ) (at : ℕ) (s : State) → drop at text ≡ bytes → at + length bytes ≡ length text → run sizes (take at text) initial ≡ Some s → ReadSays (read_from sizes bytes at s)
+    read_says : (bytes : List ℕ) (at : ℕ) (s : State) → drop at text ≡ bytes → at + length bytes ≡ length text →
+        run sizes (take at text) initial ≡ Some s → ReadSays (read_from sizes bytes at s)
     read_says [] at s rest size before =
         let all : at ≡ length text = omega (arith, size) in
-        subst (λ n. ReadSays (ended n (finished s))) (sym all) (end_says s (sym (ap (λ t. run sizes t initial) (whole_text at all)) ∙ before) (finished s) refl)
+        subst (λ n. ReadSays (ended n (finished s))) (sym all)
+        (end_says s (sym (ap (λ t. run sizes t initial) (whole_text at all)) ∙ before) (finished s) refl)
     read_says (byte ∷ bytes) at s rest size before =
-        read_on byte bytes at s rest size before (λ next behind run_next. read_says bytes (at + 1) next behind (omega (arith, size)) run_next)
+        read_on byte bytes at s rest size before
+        (λ next behind run_next. read_says bytes (at + 1) next behind (omega (arith, size)) run_next)
 
     large_by : (n d : ℕ) (a b : Bool) → nat_le n 64 ≡ a → nat_le d 16 ≡ b → (a && b) ≡ false → (64 < n) ⊎ (16 < d)
     large_by n d true true f g h = absurd cc
@@ -98,9 +107,23 @@ module _ (sizes : Sizes) (few_blocks : sizes.blocks ≤ 256) (text : List ℕ) w
     sized_says : (r : Result Expression ExprFault) → ReadSays r → Says (within_size r)
     sized_says (Ok e) spelled = by (nat_le (node_count e) 64 && nat_le (tree_depth e) 16) refl
       where
-        by : (small : Bool) → (nat_le (node_count e) 64 && nat_le (tree_depth e) 16) ≡ small → Says (cond small (Ok e) (Err (TooLarge (node_count e) (tree_depth e))))
-        by true h = record { short = short; spelled = spelled; small = small_by (node_count e) (tree_depth e) _ _ refl refl h }
-        by false h = (e, record { short = short; spelled = spelled; large = large_by (node_count e) (tree_depth e) _ _ refl refl h }, refl, refl)
+        by : (small : Bool) → (nat_le (node_count e) 64 && nat_le (tree_depth e) 16) ≡ small →
+            Says (cond small (Ok e) (Err (TooLarge (node_count e) (tree_depth e))))
+        by true h = record {
+          short = short;
+          spelled = spelled;
+          small = small_by (node_count e) (tree_depth e) _ _ refl refl h;
+        }
+        by false h = (
+          e,
+          record {
+            short = short;
+            spelled = spelled;
+            large = large_by (node_count e) (tree_depth e) _ _ refl refl h;
+          },
+          refl,
+          refl,
+        )
     sized_says (Err TooLong) h = absurd h
     sized_says (Err (Grammar at)) h = h
     sized_says (Err (TooLarge n d)) h = absurd h
@@ -110,7 +133,8 @@ module _ (sizes : Sizes) (few_blocks : sizes.blocks ≤ 256) (text : List ℕ) w
   unfolding parsed
   parsed_says = by (nat_lt 1100 (length text)) refl
     where
-      by : (long : Bool) → nat_lt 1100 (length text) ≡ long → Says (cond long (Err TooLong) (within_size (read_from sizes text 0 initial)))
+      by : (long : Bool) → nat_lt 1100 (length text) ≡ long →
+          Says (cond long (Err TooLong) (within_size (read_from sizes text 0 initial)))
       by true h = leb-true 1101 (length text) h
       by false h =
           let short : length text ≤ 1100 = grind (arith, h) in
@@ -123,15 +147,18 @@ module _ (sizes : Sizes) (few_blocks : sizes.blocks ≤ 256) (text : List ℕ) w
   from_fault f (Err g) (inl h) = inr (ap Err (sym h))
   from_fault f (Err g) (inr h) = inl h
 
-  from_read : (e : Expression) → IsRead sizes text e → (r : Result Expr ExprFault) → Parses sizes text r → IsAnswerOf (Ok e) r
+  from_read : (e : Expression) → IsRead sizes text e → (r : Result Expr ExprFault) → Parses sizes text r →
+      IsAnswerOf (Ok e) r
   from_read e h (Ok x) p = ap Ok (unambiguous sizes few_blocks text e (tree x) h.spelled p.spelled)
   from_read e h (Err TooLong) p = let s = h.short in absurd (omega arith)
   from_read e h (Err (Grammar at)) p = absurd (p.refused (e, h.spelled))
   from_read e h (Err (TooLarge n d)) p =
-      absurd (clash sizes few_blocks text p.0 p.1.large (subst IsSmall (unambiguous sizes few_blocks text e p.0 h.spelled p.1.spelled) h.small))
+      absurd (clash sizes few_blocks text p.0 p.1.large
+      (subst IsSmall (unambiguous sizes few_blocks text e p.0 h.spelled p.1.spelled) h.small))
   from_read e h (Err Memory) p = inl refl
 
-  by_says : (expected : Result Expression ExprFault) → Says expected → (r : Result Expr ExprFault) → Parses sizes text r → IsAnswerOf expected r
+  by_says : (expected : Result Expression ExprFault) → Says expected → (r : Result Expr ExprFault) →
+      Parses sizes text r → IsAnswerOf expected r
   by_says (Ok e) h r p = from_read e h r p
   by_says (Err TooLong) h r p = from_fault TooLong r (of_too_long sizes few_blocks text h r p)
   by_says (Err (Grammar at)) h r p = from_fault (Grammar at) r (of_refused sizes few_blocks text at h r p)

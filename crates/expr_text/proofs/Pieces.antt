@@ -107,7 +107,8 @@ module _ (sizes : Sizes) where
 
   abbrev pub FramesRead : List Frame → List ℕ → Type 0
   FramesRead [] text = text ≡ []
-  FramesRead (frame ∷ frames) text = (outer : List ℕ) × (before : List ℕ) × (opening : List ℕ) × FramesRead frames outer × LevelRead frame.level before × OpeningRead frame.opening opening × (text ≡ outer ++ (before ++ opening))
+  FramesRead (frame ∷ frames) text = (outer : List ℕ) × (before : List ℕ) × (opening : List ℕ) × FramesRead frames outer
+      × LevelRead frame.level before × OpeningRead frame.opening opening × (text ≡ outer ++ (before ++ opening))
 
   -- ---- an operand that is not read to its end
 
@@ -132,7 +133,8 @@ module _ (sizes : Sizes) where
   LexemeRead InputDigit text = (gap : ℕ) × (0 < sizes.width) × (text ≡ spaces gap ++ codes "in")
   LexemeRead BlockStart text = (gap : ℕ) × (0 < sizes.blocks) × (text ≡ spaces gap ++ codes "b")
   LexemeRead (BlockDigits n) text = (gap : ℕ) × (n < sizes.blocks) × (text ≡ spaces gap ++ (codes "b" ++ decimal n))
-  LexemeRead (WordDigit n) text = (gap : ℕ) × (n < sizes.blocks) × (text ≡ spaces gap ++ (codes "b" ++ (decimal n ++ 46 ∷ [])))
+  LexemeRead (WordDigit n) text = (gap : ℕ) × (n < sizes.blocks)
+      × (text ≡ spaces gap ++ (codes "b" ++ (decimal n ++ 46 ∷ [])))
   LexemeRead (Parenthesis f) text = (gap : ℕ) × (open_gap : ℕ) × (text ≡ spaces gap ++ (letters f ++ spaces open_gap))
 
   pub record OperandRead (frames : List Frame) (level : Level) (lexeme : Lexeme) (text : List ℕ) : Type 0 where
@@ -164,7 +166,8 @@ module _ (sizes : Sizes) where
 
   -- ---- putting pieces together
 
-  pub minuses_spelled : (n : ℕ) (signs text : List ℕ) (e : Expression) → Minuses n signs → FactorSpelled text e → FactorSpelled (signs ++ text) (negated n e)
+  pub minuses_spelled : (n : ℕ) (signs text : List ℕ) (e : Expression) → Minuses n signs → FactorSpelled text e →
+      FactorSpelled (signs ++ text) (negated n e)
   minuses_spelled zero signs text e h f = subst (λ t. FactorSpelled (t ++ text) e) (sym h) f
   minuses_spelled (suc n) signs text e h f =
       let one : FactorSpelled ((spaces h.1 ++ 45 ∷ []) ++ text) (negative e) = record {
@@ -173,10 +176,13 @@ module _ (sizes : Sizes) where
         text_is = append_assoc (spaces h.1) (45 ∷ []) text ∙ ap (λ t. spaces h.1 ++ 45 ∷ t) f.text_is;
         tree_is = ap negative f.tree_is;
       } in
-      let same : h.0 ++ ((spaces h.1 ++ 45 ∷ []) ++ text) ≡ signs ++ text = sym (ap (λ t. t ++ text) h.3 ∙ append_assoc h.0 (spaces h.1 ++ 45 ∷ []) text) in
-      subst (λ t. FactorSpelled t (negated n (negative e))) same (minuses_spelled n h.0 ((spaces h.1 ++ 45 ∷ []) ++ text) (negative e) h.2 one)
+      let same : h.0 ++ ((spaces h.1 ++ 45 ∷ []) ++ text) ≡ signs ++ text =
+      sym (ap (λ t. t ++ text) h.3 ∙ append_assoc h.0 (spaces h.1 ++ 45 ∷ []) text) in
+      subst (λ t. FactorSpelled t (negated n (negative e))) same
+      (minuses_spelled n h.0 ((spaces h.1 ++ 45 ∷ []) ++ text) (negative e) h.2 one)
 
-  pub product_joined : (p : Pending) (left right : List ℕ) (e : Expression) → ProductPending p left → FactorSpelled right e → ProductSpelled (left ++ right) (joined p e)
+  pub product_joined : (p : Pending) (left right : List ℕ) (e : Expression) → ProductPending p left →
+      FactorSpelled right e → ProductSpelled (left ++ right) (joined p e)
   product_joined None left right e h f = record {
     product = factor f.factor;
     valid = f.valid;
@@ -187,12 +193,15 @@ module _ (sizes : Sizes) where
     product = product_and h.spelled.product h.gap p.1 f.factor;
     valid = (h.spelled.valid, h.fits, f.valid);
     text_is =
-        let a : left ++ right ≡ h.left ++ (spaces h.gap ++ sign p.1 ∷ right) = ap (λ t. t ++ right) h.text_is ∙ simp append_assoc in
-        a ∙ ap (λ t. t ++ (spaces h.gap ++ sign p.1 ∷ right)) h.spelled.text_is ∙ ap (λ t. product_text h.spelled.product ++ (spaces h.gap ++ sign p.1 ∷ t)) f.text_is;
+        let a : left ++ right ≡ h.left ++ (spaces h.gap ++ sign p.1 ∷ right) =
+        ap (λ t. t ++ right) h.text_is ∙ simp append_assoc in
+        a ∙ ap (λ t. t ++ (spaces h.gap ++ sign p.1 ∷ right)) h.spelled.text_is
+        ∙ ap (λ t. product_text h.spelled.product ++ (spaces h.gap ++ sign p.1 ∷ t)) f.text_is;
     tree_is = cc (h.spelled.tree_is, f.tree_is);
   }
 
-  pub sum_joined : (p : Pending) (left right : List ℕ) (e : Expression) → SumPending p left → ProductSpelled right e → SumSpelled (left ++ right) (joined p e)
+  pub sum_joined : (p : Pending) (left right : List ℕ) (e : Expression) → SumPending p left → ProductSpelled right e →
+      SumSpelled (left ++ right) (joined p e)
   sum_joined None left right e h f = record {
     sum = product f.product;
     valid = f.valid;
@@ -203,15 +212,20 @@ module _ (sizes : Sizes) where
     sum = sum_and h.spelled.sum h.gap p.1 f.product;
     valid = (h.spelled.valid, h.fits, f.valid);
     text_is =
-        let a : left ++ right ≡ h.left ++ (spaces h.gap ++ sign p.1 ∷ right) = ap (λ t. t ++ right) h.text_is ∙ simp append_assoc in
-        a ∙ ap (λ t. t ++ (spaces h.gap ++ sign p.1 ∷ right)) h.spelled.text_is ∙ ap (λ t. sum_text h.spelled.sum ++ (spaces h.gap ++ sign p.1 ∷ t)) f.text_is;
+        let a : left ++ right ≡ h.left ++ (spaces h.gap ++ sign p.1 ∷ right) =
+        ap (λ t. t ++ right) h.text_is ∙ simp append_assoc in
+        a ∙ ap (λ t. t ++ (spaces h.gap ++ sign p.1 ∷ right)) h.spelled.text_is
+        ∙ ap (λ t. sum_text h.spelled.sum ++ (spaces h.gap ++ sign p.1 ∷ t)) f.text_is;
     tree_is = cc (h.spelled.tree_is, f.tree_is);
   }
 
   -- an operand that is read to its end
-  pub completed_read : (frames : List Frame) (level : Level) (outer before part text : List ℕ) (e : Expression) → FramesRead frames outer → LevelRead level before → AtomSpelled part e → text ≡ outer ++ (before ++ part) → StateRead (completed frames level e) text
+  pub completed_read : (frames : List Frame) (level : Level) (outer before part text : List ℕ) (e : Expression) →
+      FramesRead frames outer → LevelRead level before → AtomSpelled part e → text ≡ outer ++ (before ++ part) →
+      StateRead (completed frames level e) text
   completed_read frames level outer before part text e fr lr a t =
-      let f : FactorSpelled part e = record { factor = atom a.atom; valid = a.valid; text_is = a.text_is; tree_is = a.tree_is } in
+      let f : FactorSpelled part e =
+      record { factor = atom a.atom; valid = a.valid; text_is = a.text_is; tree_is = a.tree_is } in
       let g = minuses_spelled level.minuses lr.signs part e lr.minuses f in
       record {
         outer = outer;
@@ -219,9 +233,11 @@ module _ (sizes : Sizes) where
         products = lr.products ++ (lr.signs ++ part);
         frames_read = fr;
         sum_read = lr.sum;
-        product_read = product_joined level.product lr.products (lr.signs ++ part) (negated level.minuses e) lr.product g;
+        product_read = product_joined level.product lr.products (lr.signs ++ part) (negated level.minuses e) lr.product
+            g;
         gap = 0;
         text_is =
-            let same : (lr.sums ++ (lr.products ++ lr.signs)) ++ part ≡ lr.sums ++ ((lr.products ++ (lr.signs ++ part)) ++ []) = simp (append_assoc, append-nil) in
+            let same : (lr.sums ++ (lr.products ++ lr.signs)) ++ part
+            ≡ lr.sums ++ ((lr.products ++ (lr.signs ++ part)) ++ []) = simp (append_assoc, append-nil) in
             t ∙ ap (λ b. outer ++ (b ++ part)) lr.text_is ∙ ap (λ b. outer ++ b) same;
       }

@@ -18,15 +18,23 @@ module _ (sizes : Sizes) (few_blocks : sizes.blocks ≤ 256) (text : List ℕ) w
   clash e (inr h) s = let d = s.1 in omega arith
 
   -- what is measured was spelled by the text
-  pub measured_parses : (e : Expr) → length text ≤ 1100 → SpellsExpression sizes text (tree e) → (r : Result Expr ExprFault) → Measures e r → Parses sizes text r
-  measured_parses e short spelled (Ok x) m = record { short = short; spelled = subst (λ y. SpellsExpression sizes text (tree y)) (sym m.0) spelled; small = subst (λ y. IsSmall (tree y)) (sym m.0) m.1 }
+  pub measured_parses : (e : Expr) → length text ≤ 1100 → SpellsExpression sizes text (tree e) →
+      (r : Result Expr ExprFault) → Measures e r → Parses sizes text r
+  measured_parses e short spelled (Ok x) m =
+      record {
+        short = short;
+        spelled = subst (λ y. SpellsExpression sizes text (tree y)) (sym m.0) spelled;
+        small = subst (λ y. IsSmall (tree y)) (sym m.0) m.1;
+      }
   measured_parses e short spelled (Err TooLong) m = absurd m
   measured_parses e short spelled (Err (Grammar at)) m = absurd m
-  measured_parses e short spelled (Err (TooLarge n d)) m = (tree e, record { short = short; spelled = spelled; large = m.0 }, m.1, m.2)
+  measured_parses e short spelled (Err (TooLarge n d)) m =
+      (tree e, record { short = short; spelled = spelled; large = m.0 }, m.1, m.2)
   measured_parses e short spelled (Err Memory) m = tt
 
   one_length : (m n : ℕ) → IsLongestViable sizes text m → IsLongestViable sizes text n → m ≡ n
-  one_length m n a b = let below = b.longest m a.within a.viable in let above = a.longest n b.within b.viable in omega arith
+  one_length m n a b = let below = b.longest m a.within a.viable in let above = a.longest n b.within b.viable in
+      omega arith
 
   pub of_too_long : 1100 < length text → (r : Result Expr ExprFault) → Parses sizes text r → IsFault TooLong r
   of_too_long h (Ok x) p = let s = p.short in absurd (omega arith)
@@ -35,15 +43,19 @@ module _ (sizes : Sizes) (few_blocks : sizes.blocks ≤ 256) (text : List ℕ) w
   of_too_long h (Err (TooLarge n d)) p = let s = p.1.short in absurd (omega arith)
   of_too_long h (Err Memory) p = inr refl
 
-  pub of_refused : (at : ℕ) → IsRefusedAt sizes text at → (r : Result Expr ExprFault) → Parses sizes text r → IsFault (Grammar at) r
+  pub of_refused : (at : ℕ) → IsRefusedAt sizes text at → (r : Result Expr ExprFault) → Parses sizes text r →
+      IsFault (Grammar at) r
   of_refused at h (Ok x) p = absurd (h.refused (tree x, p.spelled))
   of_refused at h (Err TooLong) p = let s = h.short in absurd (omega arith)
   of_refused at h (Err (Grammar m)) p = inl (ap Grammar (one_length m at p.place h.place))
   of_refused at h (Err (TooLarge n d)) p = absurd (h.refused (p.0, p.1.spelled))
   of_refused at h (Err Memory) p = inr refl
 
-  pub of_too_large : (e : Expression) → IsTooLarge sizes text e → (r : Result Expr ExprFault) → Parses sizes text r → IsFault (TooLarge (node_count e) (tree_depth e)) r
-  of_too_large e h (Ok x) p = absurd (clash e h.large (subst IsSmall (unambiguous sizes few_blocks text (tree x) e p.spelled h.spelled) p.small))
+  pub of_too_large : (e : Expression) → IsTooLarge sizes text e → (r : Result Expr ExprFault) → Parses sizes text r →
+      IsFault (TooLarge (node_count e) (tree_depth e)) r
+  of_too_large e h (Ok x) p =
+      absurd (clash e h.large (subst IsSmall (unambiguous sizes few_blocks text (tree x) e p.spelled h.spelled)
+      p.small))
   of_too_large e h (Err TooLong) p = let s = h.short in absurd (omega arith)
   of_too_large e h (Err (Grammar m)) p = absurd (p.refused (e, h.spelled))
   of_too_large e h (Err (TooLarge n d)) p =
@@ -55,7 +67,9 @@ module _ (sizes : Sizes) (few_blocks : sizes.blocks ≤ 256) (text : List ℕ) w
   of_read e h (Ok x) p = one_expr x e (unambiguous sizes few_blocks text (tree x) (tree e) p.spelled h.spelled)
   of_read e h (Err TooLong) p = let s = h.short in absurd (omega arith)
   of_read e h (Err (Grammar m)) p = absurd (p.refused (tree e, h.spelled))
-  of_read e h (Err (TooLarge n d)) p = absurd (clash p.0 p.1.large (subst IsSmall (unambiguous sizes few_blocks text (tree e) p.0 h.spelled p.1.spelled) h.small))
+  of_read e h (Err (TooLarge n d)) p =
+      absurd (clash p.0 p.1.large
+      (subst IsSmall (unambiguous sizes few_blocks text (tree e) p.0 h.spelled p.1.spelled) h.small))
   of_read e h (Err Memory) p = refl
 
   pub exact : (r : Result Expr ExprFault) → Parses sizes text r → IsExact sizes text r

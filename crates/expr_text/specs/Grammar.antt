@@ -29,7 +29,8 @@ mutual
     input_token : (gap place : ℕ) → Atom
     word_token : (gap block place : ℕ) → Atom
     group : (gap : ℕ) (s : Sum) (end_gap : ℕ) → Atom
-    call_form : (gap : ℕ) (f : Function) (open_gap : ℕ) (a : Sum) (first_gap : ℕ) (b : Sum) (second_gap : ℕ) (c : Sum) (end_gap : ℕ) → Atom
+    call_form : (gap : ℕ) (f : Function) (open_gap : ℕ) (a : Sum) (first_gap : ℕ) (b : Sum) (second_gap : ℕ) (c : Sum)
+        (end_gap : ℕ) → Atom
 
 abbrev pub spaces : ℕ → List ℕ
 spaces zero = []
@@ -68,8 +69,10 @@ abbrev mutual
   atom_text (input_token gap place) = spaces gap ++ (codes "in" ++ (48 + place) ∷ [])
   atom_text (word_token gap block place) = spaces gap ++ (codes "b" ++ (decimal block ++ 46 ∷ (48 + place) ∷ []))
   atom_text (group gap s end_gap) = spaces gap ++ 40 ∷ (sum_text s ++ (spaces end_gap ++ 41 ∷ []))
-  atom_text (call_form gap f open_gap a first_gap b second_gap c end_gap) = spaces gap ++ (letters f ++ (spaces open_gap ++ 40 ∷
-      (sum_text a ++ (spaces first_gap ++ 44 ∷ (sum_text b ++ (spaces second_gap ++ 44 ∷ (sum_text c ++ (spaces end_gap ++ 41 ∷ []))))))))
+  atom_text (call_form gap f open_gap a first_gap b second_gap c end_gap) =
+      spaces gap ++ (letters f ++ (spaces open_gap ++ 40 ∷
+      (sum_text a ++ (spaces first_gap ++ 44
+      ∷ (sum_text b ++ (spaces second_gap ++ 44 ∷ (sum_text c ++ (spaces end_gap ++ 41 ∷ []))))))))
 
 abbrev pub called_with : Function → Expression → Expression → Expression → Expression
 called_with (called.Native code) a b c = call code a b c
@@ -95,7 +98,8 @@ abbrev mutual
   atom_tree (input_token gap place) = input place
   atom_tree (word_token gap block place) = block_word block place
   atom_tree (group gap s end_gap) = sum_tree s
-  atom_tree (call_form gap f open_gap a first_gap b second_gap c end_gap) = called_with f (sum_tree a) (sum_tree b) (sum_tree c)
+  atom_tree (call_form gap f open_gap a first_gap b second_gap c end_gap) =
+      called_with f (sum_tree a) (sum_tree b) (sum_tree c)
 
 abbrev pub IsSumSign : Op → Type 0
 IsSumSign Add = Unit {0}
@@ -132,7 +136,8 @@ abbrev mutual
   AtomIn sizes (input_token gap place) = (place < 10) × (place < sizes.width)
   AtomIn sizes (word_token gap block place) = (block < sizes.blocks) × (place < 8)
   AtomIn sizes (group gap s end_gap) = SumIn sizes s
-  AtomIn sizes (call_form gap f open_gap a first_gap b second_gap c end_gap) = SumIn sizes a × SumIn sizes b × SumIn sizes c
+  AtomIn sizes (call_form gap f open_gap a first_gap b second_gap c end_gap) = SumIn sizes a × SumIn sizes b
+      × SumIn sizes c
 
 -- The text stands for the expression: it is a sum, and spaces at its end.
 pub record SpellsExpression (sizes : Sizes) (text : List ℕ) (e : Expression) : Type 0 where

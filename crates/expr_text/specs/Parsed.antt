@@ -22,11 +22,13 @@ gone_on at go (Some state) = go state
 -- the expression that these bytes complete, which stand from a place on, or the place where they stop
 abbrev pub read_from : Sizes → List ℕ → ℕ → State → Result Expression ExprFault
 read_from sizes [] at state = ended at (finished state)
-read_from sizes (byte ∷ bytes) at state = gone_on at (read_from sizes bytes (at + 1)) (after sizes state (byte_kind byte))
+read_from sizes (byte ∷ bytes) at state =
+    gone_on at (read_from sizes bytes (at + 1)) (after sizes state (byte_kind byte))
 
 -- an expression has at most 64 nodes and a depth of at most 16
 abbrev pub within_size : Result Expression ExprFault → Result Expression ExprFault
-within_size (Ok e) = if nat_le (node_count e) 64 && nat_le (tree_depth e) 16 then Ok e else Err (TooLarge (node_count e) (tree_depth e))
+within_size (Ok e) = if nat_le (node_count e) 64 && nat_le (tree_depth e) 16 then Ok e
+    else Err (TooLarge (node_count e) (tree_depth e))
 within_size (Err fault) = Err fault
 
 -- what parsing a text answers: the expression, or why there is none

@@ -40,7 +40,8 @@ pub record IsRead (sizes : Sizes) (text : List ℕ) (e : Expression) : Type 0 wh
 abbrev pub Explains : Sizes → List ℕ → ExprFault → Type 0
 Explains sizes text TooLong = 1100 < length text
 Explains sizes text (Grammar at) = IsRefusedAt sizes text at
-Explains sizes text (TooLarge n d) = (e : Expression) × IsTooLarge sizes text e × (n ≡ node_count e) × (d ≡ tree_depth e)
+Explains sizes text (TooLarge n d) = (e : Expression) × IsTooLarge sizes text e × (n ≡ node_count e)
+    × (d ≡ tree_depth e)
 Explains sizes text Memory = Unit {0}
 
 abbrev pub Parses : Sizes → List ℕ → Result Expr ExprFault → Type 0

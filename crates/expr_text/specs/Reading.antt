@@ -116,15 +116,18 @@ opened frames level opening = Operand (record { opening = opening; level = level
 -- at the start of an operand
 abbrev pub at_start : Sizes → List Frame → Level → Kind → Option State
 at_start sizes frames level Space = Some (Operand frames level Start)
-at_start sizes frames level (Sign Sub) = Some (Operand frames (record { sum = level.sum; product = level.product; minuses = suc level.minuses }) Start)
+at_start sizes frames level (Sign Sub) =
+    Some (Operand frames (record { sum = level.sum; product = level.product; minuses = suc level.minuses }) Start)
 at_start sizes frames level Open = Some (opened frames level Group)
 at_start sizes frames level (Digit d) = Some (Operand frames level (Digits d))
 at_start sizes frames level (Letter x) = begun frames level (keyword_at sizes x)
 at_start sizes frames level _ = None
 
 abbrev pub signed : List Frame → Pending → Expression → Op → State
-signed frames sum product Add = Operand frames (record { sum = Some (joined sum product, Add); product = None; minuses = 0 }) Start
-signed frames sum product Sub = Operand frames (record { sum = Some (joined sum product, Sub); product = None; minuses = 0 }) Start
+signed frames sum product Add =
+    Operand frames (record { sum = Some (joined sum product, Add); product = None; minuses = 0 }) Start
+signed frames sum product Sub =
+    Operand frames (record { sum = Some (joined sum product, Sub); product = None; minuses = 0 }) Start
 signed frames sum product Mul = Operand frames (record { sum = sum; product = Some (product, Mul); minuses = 0 }) Start
 signed frames sum product Div = Operand frames (record { sum = sum; product = Some (product, Div); minuses = 0 }) Start
 signed frames sum product Rem = Operand frames (record { sum = sum; product = Some (product, Rem); minuses = 0 }) Start
@@ -162,7 +165,8 @@ in_digits frames level n (Digit d) = with_number (λ m. Operand frames level (Di
 in_digits frames level n byte_kind = at_end frames level.sum (factored level (number (pos n))) byte_kind
 
 abbrev pub in_letters : List Frame → Level → Keyword → ℕ → List ℕ → Kind → Option State
-in_letters frames level k next rest (Letter x) = if nat_eq x next then Some (keyword_spelled frames level k rest) else None
+in_letters frames level k next rest (Letter x) =
+    if nat_eq x next then Some (keyword_spelled frames level k rest) else None
 in_letters frames level k next rest _ = None
 
 abbrev pub in_input : Sizes → List Frame → Level → Kind → Option State
@@ -170,11 +174,13 @@ in_input sizes frames level (Digit d) = if nat_lt d sizes.width then Some (compl
 in_input sizes frames level _ = None
 
 abbrev pub at_block : Sizes → List Frame → Level → Kind → Option State
-at_block sizes frames level (Digit d) = if nat_lt d sizes.blocks then Some (Operand frames level (BlockDigits d)) else None
+at_block sizes frames level (Digit d) =
+    if nat_lt d sizes.blocks then Some (Operand frames level (BlockDigits d)) else None
 at_block sizes frames level _ = None
 
 abbrev pub in_block : Sizes → List Frame → Level → ℕ → Kind → Option State
-in_block sizes frames level n (Digit d) = with_number (λ m. Operand frames level (BlockDigits m)) (with_digit sizes.blocks n d)
+in_block sizes frames level n (Digit d) =
+    with_number (λ m. Operand frames level (BlockDigits m)) (with_digit sizes.blocks n d)
 in_block sizes frames level n Dot = Some (Operand frames level (WordDigit n))
 in_block sizes frames level n _ = None
 

@@ -8,5 +8,6 @@ use crate::state::Sizes;
 
 /// A text stands for at most one expression.
 pub fn one_reading()
-    ensures { (sizes : Sizes) (text : List ℕ) (d e : Expression) → sizes.blocks ≤ 256 → SpellsExpression sizes text d → SpellsExpression sizes text e → d ≡ e }
+    ensures { (sizes : Sizes) (text : List ℕ) (d e : Expression) → sizes.blocks ≤ 256 → SpellsExpression sizes text d →
+        SpellsExpression sizes text e → d ≡ e }
 {}

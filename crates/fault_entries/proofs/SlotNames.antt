@@ -9,14 +9,17 @@ use Rattle.guards_model.proofs.ListTests.{weaken}
 use Rattle.fault_script.specs.Entries.{is_in_cycle}
 use Rattle.fault_entries.specs.Entries.{is_entry}
 
-found_by : {A : Type 0} (p q : A → Bool) (x : A) (xs : List A) (b : Bool) → q x ≡ true → ((y : A) → find p xs ≡ Some y → q y ≡ true) → (y : A) → (if b then Some x else find p xs) ≡ Some y → q y ≡ true
+found_by : {A : Type 0} (p q : A → Bool) (x : A) (xs : List A) (b : Bool) → q x ≡ true →
+    ((y : A) → find p xs ≡ Some y → q y ≡ true) → (y : A) → (if b then Some x else find p xs) ≡ Some y → q y ≡ true
 found_by p q x xs true h more y is = let e : x ≡ y = cc in subst (λ z. q z ≡ true) e h
 found_by p q x xs false h more y is = more y is
 
 -- what all elements of a list pass, the one that is found passes
-pub find_passes : {A : Type 0} (p q : A → Bool) (xs : List A) → list_all q xs ≡ true → (y : A) → find p xs ≡ Some y → q y ≡ true
+pub find_passes : {A : Type 0} (p q : A → Bool) (xs : List A) → list_all q xs ≡ true → (y : A) → find p xs ≡ Some y →
+    q y ≡ true
 find_passes p q [] all y is = absurd cc
-find_passes p q (x ∷ xs) all y is = let parts = both (q x) (list_all q xs) all in found_by p q x xs (p x) parts.0 (find_passes p q xs parts.1) y is
+find_passes p q (x ∷ xs) all y is = let parts = both (q x) (list_all q xs) all in
+    found_by p q x xs (p x) parts.0 (find_passes p q xs parts.1) y is
 
 in_cycle : (fault : FaultValue) → is_entry fault ≡ true → is_in_cycle fault ≡ true
 in_cycle (crash q c Request) h = refl

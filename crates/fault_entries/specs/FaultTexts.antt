@@ -201,4 +201,5 @@ script_or_empty channels cycles blocks path (Some value) = script_at channels cy
 
 -- the script of a document, empty without the key `fault`
 unfoldable pub script_field : ℕ → ℕ → ℕ → Members → Checked (List FaultValue)
-script_field channels cycles blocks fields = script_or_empty channels cycles blocks (codes "fault") (get_member (codes "fault") fields)
+script_field channels cycles blocks fields =
+    script_or_empty channels cycles blocks (codes "fault") (get_member (codes "fault") fields)

@@ -71,7 +71,8 @@ fn broken_path(
     for_bus: &[bool],
     path: &str,
 ) -> Result<String, AllocError>
-    ensures { IfOk result (λ place. IfSome (broken_rule fault) (λ broken. string_bytes place ≡ script_path path.now for_bus.now broken)) }
+    ensures { IfOk result (λ place.
+        IfSome (broken_rule fault) (λ broken. string_bytes place ≡ script_path path.now for_bus.now broken)) }
 {
     match fault {
         ScriptFault::TooMany | ScriptFault::Memory => String::from_str(alloc, path),
@@ -86,7 +87,8 @@ fn broken_path(
 
 /// What a fault of the script is answered as.
 fn refusal_of(alloc: Global, fault: ScriptFault, for_bus: &[bool], path: &str) -> ReadFault
-    ensures { MatchOption (broken_rule fault) (result ≡ Memory) (λ broken. Refuses OutOfRange (script_path path.now for_bus.now broken) result) }
+    ensures { MatchOption (broken_rule fault) (result ≡ Memory)
+        (λ broken. Refuses OutOfRange (script_path path.now for_bus.now broken) result) }
 {
     if matches!(fault, ScriptFault::Memory) {
         return ReadFault::Memory;
@@ -108,7 +110,8 @@ fn kept_script(
     requires most { sizes.channels ≤ 7 }
     requires holds { list_all is_entry (map fault_value entries.items) ≡ true }
     ensures exact { Gives (λ script. script) result
-        (kept_script path.now (map fault_value entries.items) (script_fault sizes.channels sizes.cycles sizes.blocks (map fault_value entries.items))) }
+        (kept_script path.now (map fault_value entries.items)
+        (script_fault sizes.channels sizes.cycles sizes.blocks (map fault_value entries.items))) }
     ensures fits { IfOk result (FitsSizes sizes.channels sizes.cycles sizes.blocks) }
 {
     let for_bus = which_for_bus(alloc, entries.as_slice())?;
@@ -123,7 +126,8 @@ fn script_at(alloc: Global, value: &Value, sizes: Sizes, path: &str) -> Result<S
     requires least { 3 ≤ sizes.channels }
     requires most { sizes.channels ≤ 7 }
     ensures fits { IfOk result (FitsSizes sizes.channels sizes.cycles sizes.blocks) }
-    ensures exact { Gives (λ script. script) result (script_at sizes.channels sizes.cycles sizes.blocks path.now (view value.now)) }
+    ensures exact { Gives (λ script. script) result
+        (script_at sizes.channels sizes.cycles sizes.blocks path.now (view value.now)) }
 {
     let entries = faults_of(alloc, value, path)?;
     kept_script(alloc, entries, sizes, path)

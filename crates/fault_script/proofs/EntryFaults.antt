@@ -17,17 +17,23 @@ module _ (channels cycles blocks at : ℕ) (entries : List Fault) (total : Optio
   broken_at entry = first_broken (rules_of_entry channels cycles blocks at (fault_value entry))
 
   opened : (entry : Fault) → entry ≡ get_or entries at entry → at < length entries
-      → entry_fault channels cycles blocks at (map fault_value (drop at entries)) ≡ or_later (broken_at entry) (entry_fault channels cycles blocks (at + 1) (map fault_value (drop (at + 1) entries)))
+      → entry_fault channels cycles blocks at (map fault_value (drop at entries))
+      ≡ or_later (broken_at entry)
+      (entry_fault channels cycles blocks (at + 1) (map fault_value (drop (at + 1) entries)))
   unfolding entry_fault
   opened entry is lt = rw (drop_more entries at entry lt, ← is) refl
 
-  pub entry_kept : (entry : Fault) → entry ≡ get_or entries at entry → at < length entries → broken_at entry ≡ None → LeavesEntries
+  pub entry_kept : (entry : Fault) → entry ≡ get_or entries at entry → at < length entries → broken_at entry ≡ None →
+      LeavesEntries
       → entry_fault channels cycles blocks (at + 1) (map fault_value (drop (at + 1) entries)) ≡ total
   entry_kept entry is lt kept so_far =
-      sym (opened entry is lt ∙ ap (λ b. or_later b (entry_fault channels cycles blocks (at + 1) (map fault_value (drop (at + 1) entries)))) kept) ∙ so_far
+      sym (opened entry is lt ∙ ap
+      (λ b. or_later b (entry_fault channels cycles blocks (at + 1) (map fault_value (drop (at + 1) entries))))
+      kept) ∙ so_far
 
   -- an answer that the rules of this entry give is the answer of all entries
-  breaks_first : (fault : ScriptFault) (b later : Option ScriptFaultValue) → Breaks fault b → Breaks fault (or_later b later)
+  breaks_first : (fault : ScriptFault) (b later : Option ScriptFaultValue) → Breaks fault b →
+      Breaks fault (or_later b later)
   breaks_first fault (Some value) later breaks = breaks
   breaks_first faults.Memory None later breaks = absurd breaks
   breaks_first faults.TooMany None later breaks = absurd cc
@@ -38,9 +44,12 @@ module _ (channels cycles blocks at : ℕ) (entries : List Fault) (total : Optio
   breaks_first (faults.To at) None later breaks = absurd cc
   breaks_first (faults.Long at) None later breaks = absurd cc
 
-  pub entry_breaks : (entry : Fault) → entry ≡ get_or entries at entry → at < length entries → (fault : ScriptFault) → Breaks fault (broken_at entry) → LeavesEntries → Breaks fault total
+  pub entry_breaks : (entry : Fault) → entry ≡ get_or entries at entry → at < length entries → (fault : ScriptFault) →
+      Breaks fault (broken_at entry) → LeavesEntries → Breaks fault total
   entry_breaks entry is lt fault breaks so_far =
-      subst (λ b. Breaks fault b) (sym (opened entry is lt) ∙ so_far) (breaks_first fault (broken_at entry) (entry_fault channels cycles blocks (at + 1) (map fault_value (drop (at + 1) entries))) breaks)
+      subst (λ b. Breaks fault b) (sym (opened entry is lt) ∙ so_far)
+      (breaks_first fault (broken_at entry)
+      (entry_fault channels cycles blocks (at + 1) (map fault_value (drop (at + 1) entries))) breaks)
 
   pub entries_end : length entries ≤ at → LeavesEntries → total ≡ None
   unfolding entry_fault

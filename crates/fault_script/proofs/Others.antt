@@ -16,10 +16,13 @@ module _ (test : FaultValue → Bool) (bus_fails : (rule : RuleValue) → test (
   any_of_others [] = refl
   any_of_others (crash q c slot ∷ entries) = ap (λ b. test (crash q c slot) || b) (any_of_others entries)
   any_of_others (restart q c ∷ entries) = ap (λ b. test (restart q c) || b) (any_of_others entries)
-  any_of_others (damage q c block word value ∷ entries) = ap (λ b. test (damage q c block word value) || b) (any_of_others entries)
-  any_of_others (bus rule ∷ entries) = any_of_others entries ∙ sym (ap (λ b. b || list_any test entries) (bus_fails rule))
+  any_of_others (damage q c block word value ∷ entries) =
+      ap (λ b. test (damage q c block word value) || b) (any_of_others entries)
+  any_of_others (bus rule ∷ entries) =
+      any_of_others entries ∙ sym (ap (λ b. b || list_any test entries) (bus_fails rule))
 
-  any_mapped : (entries : List Fault) → list_any (λ entry. test (fault_value entry)) entries ≡ list_any test (map fault_value entries)
+  any_mapped : (entries : List Fault) →
+      list_any (λ entry. test (fault_value entry)) entries ≡ list_any test (map fault_value entries)
   any_mapped [] = refl
   any_mapped (entry ∷ entries) = ap (λ b. test (fault_value entry) || b) (any_mapped entries)
 

@@ -384,7 +384,8 @@ fn who_is_disturbed(
 }
 
 impl Ledger {
-    /// All of so many channels (3 to 7) are up, without a mark. A channel that is switched off waits `return_after` cycles.
+    /// All of so many channels (3 to 7) are up, without a mark. A channel that is switched off waits `return_after`
+    /// cycles.
     pub fn first(channels: u8, return_after: u32) -> Ledger
         requires least { 3 ≤ channels }
         requires most { channels ≤ 7 }

@@ -94,7 +94,8 @@ struct Sizes {
 
 /// The first rule that an entry breaks.
 fn broken_rule(entry: &Fault, sizes: Sizes, at: u16) -> Option<ScriptFault>
-    ensures { IsAnswer result (first_broken (rules_of_entry sizes.channels sizes.cycles sizes.blocks at (fault_value entry.now))) }
+    ensures { IsAnswer result
+        (first_broken (rules_of_entry sizes.channels sizes.cycles sizes.blocks at (fault_value entry.now))) }
 {
     match entry {
         Fault::Crash { channel, cycle, .. } => broken_by_channel(*channel, *cycle, sizes, at),
@@ -124,7 +125,9 @@ fn broken_rule(entry: &Fault, sizes: Sizes, at: u16) -> Option<ScriptFault>
 
 /// The first rule that a crash or a restart breaks.
 fn broken_by_channel(channel: u8, cycle: u32, sizes: Sizes, at: u16) -> Option<ScriptFault>
-    ensures { IsAnswer result (first_broken ((nat_lt cycle sizes.cycles, wrong_cycle at) ∷ (nat_lt channel sizes.channels, wrong_channel at) ∷ [])) }
+    ensures { IsAnswer result
+        (first_broken ((nat_lt cycle sizes.cycles, wrong_cycle at) ∷ (nat_lt channel sizes.channels, wrong_channel at)
+        ∷ [])) }
 {
     if cycle >= sizes.cycles {
         Some(ScriptFault::Cycle { at })
@@ -137,7 +140,8 @@ fn broken_by_channel(channel: u8, cycle: u32, sizes: Sizes, at: u16) -> Option<S
 
 /// The first rule that a loss or a forged piece breaks.
 fn broken_by_rule(rule: &Rule, sizes: Sizes, at: u16) -> Option<ScriptFault>
-    ensures { IsAnswer result (first_broken (rules_of_entry sizes.channels sizes.cycles sizes.blocks at (bus rule.now))) }
+    ensures { IsAnswer result
+        (first_broken (rules_of_entry sizes.channels sizes.cycles sizes.blocks at (bus rule.now))) }
 {
     if rule.cycle >= sizes.cycles {
         Some(ScriptFault::Cycle { at })
@@ -216,13 +220,16 @@ impl Model for Script {
 
     ghost invariant = { λ script.
         (script.rules.items ≡ filter_map bus_rule (map fault_value script.entries.value.items))
-        × (map fault_value script.others.items ≡ filter (λ entry. not (is_for_bus entry)) (map fault_value script.entries.value.items)) };
+        × (map fault_value script.others.items
+        ≡ filter (λ entry. not (is_for_bus entry)) (map fault_value script.entries.value.items)) };
 }
 
 /// Puts an entry where it belongs: among the rules for the bus, or among the others.
 fn part(entry: Fault, rules: &mut Sequence<Rule>, others: &mut Faults) -> Result<(), AllocError>
     ensures rules { OnOk result (rules.new.items ≡ rules.old.items ++ filter_map bus_rule (fault_value entry ∷ [])) }
-    ensures others { OnOk result (map fault_value others.new.items ≡ map fault_value others.old.items ++ filter (λ e. not (is_for_bus e)) (fault_value entry ∷ [])) }
+    ensures others { OnOk result
+        (map fault_value others.new.items
+        ≡ map fault_value others.old.items ++ filter (λ e. not (is_for_bus e)) (fault_value entry ∷ [])) }
 {
     match entry {
         Fault::Bus(rule) => rules.push(rule),
@@ -233,7 +240,8 @@ fn part(entry: Fault, rules: &mut Sequence<Rule>, others: &mut Faults) -> Result
 /// The entries for the bus and the others, each in order.
 fn parted(alloc: Global, entries: Vec<Fault>) -> Result<(Sequence<Rule>, Faults), AllocError>
     ensures rules { IfOk result (λ parts. parts.0.items ≡ filter_map bus_rule (map fault_value entries.items)) }
-    ensures others { IfOk result (λ parts. map fault_value parts.1.items ≡ filter (λ e. not (is_for_bus e)) (map fault_value entries.items)) }
+    ensures others { IfOk result
+        (λ parts. map fault_value parts.1.items ≡ filter (λ e. not (is_for_bus e)) (map fault_value entries.items)) }
 {
     let mut rules = Sequence::new(alloc);
     let mut others = Sequence::new(alloc);
@@ -259,8 +267,11 @@ impl Script {
         requires most { channels ≤ 7 }
         requires slots { list_all is_in_cycle (map fault_value faults.items) ≡ true }
         ensures made { IfOk result (λ script. script ≡ map fault_value faults.items) }
-        ensures kept { IfOk result (λ script. script_fault channels cycles blocks (map fault_value faults.items) ≡ None) }
-        ensures refused { IfErr result (λ fault. (fault ≡ ScriptFault.Memory) ⊎ Breaks fault (script_fault channels cycles blocks (map fault_value faults.items))) }
+        ensures kept { IfOk result
+            (λ script. script_fault channels cycles blocks (map fault_value faults.items) ≡ None) }
+        ensures refused { IfErr result
+            (λ fault. (fault ≡ ScriptFault.Memory)
+            ⊎ Breaks fault (script_fault channels cycles blocks (map fault_value faults.items))) }
     {
         let sizes = Sizes {
             channels,

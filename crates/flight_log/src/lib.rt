@@ -1,5 +1,5 @@
-//! A flight log: the last parts of a report, as many as it has room for. All of the memory that it needs for itself is taken
-//! when it is made.
+//! A flight log: the last parts of a report, as many as it has room for. All of the memory that it needs for itself is
+//! taken when it is made.
 #![tactic(auto)]
 
 mod log;

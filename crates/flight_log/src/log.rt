@@ -40,10 +40,12 @@ impl FlightLog {
         Ok(FlightLog { buffer })
     }
 
-    /// Adds a part. Where as many are kept as there is room for, the oldest is pushed out, and answered. It takes no memory.
+    /// Adds a part. Where as many are kept as there is room for, the oldest is pushed out, and answered. It takes no
+    /// memory.
     pub fn push(&mut self, part: Bytes) -> Option<Bytes>
         ensures kept { self.new ≡ kept (keep_last self.old.room (self.old.parts ++ part.items ∷ [])) self.old.room }
-        ensures last { (pushed : List (List ℕ)) → HasLastOf pushed self.old → HasLastOf (pushed ++ part.items ∷ []) self.new }
+        ensures last { (pushed : List (List ℕ)) → HasLastOf pushed self.old →
+            HasLastOf (pushed ++ part.items ∷ []) self.new }
         ensures out { MatchOption result (length self.old.parts < self.old.room)
             (λ oldest. (length self.old.parts ≡ self.old.room) × (slice_get self.old.parts 0 ≡ Some oldest.items)) }
     {

@@ -51,7 +51,8 @@ grows : (p q : ℕ → Bool) → ((w : ℕ) → p w ≡ true → q w ≡ true) �
 grows p q up [] = record { least = omega arith; more = inl (λ w there. absurd cc) }
 grows p q up (x ∷ xs) = by (p x) (q x) refl refl (grows p q up xs)
   where
-    same_here : (b : Bool) → p x ≡ b → q x ≡ b → ((w : ℕ) → has xs w ≡ true → q w ≡ p w) → (w : ℕ) → has (x ∷ xs) w ≡ true → q w ≡ p w
+    same_here : (b : Bool) → p x ≡ b → q x ≡ b → ((w : ℕ) → has xs w ≡ true → q w ≡ p w) → (w : ℕ) →
+        has (x ∷ xs) w ≡ true → q w ≡ p w
     same_here b e f rest w there =
         elim (or_cases (x == w) (has xs w) there) [
           | inl same ↦ ap q (sym (eqb-true x w same)) ∙ f ∙ sym e ∙ ap p (eqb-true x w same)
@@ -91,7 +92,8 @@ grows p q up (x ∷ xs) = by (p x) (q x) refl refl (grows p q up xs)
 
 -- ---- steps
 
-module _ (list : List Assignment) (outputs : List (ℕ × ℕ)) (words : ℕ) (low : list_all (λ (a : Assignment). nat_lt a.word words) list ≡ true) where
+module _ (list : List Assignment) (outputs : List (ℕ × ℕ)) (words : ℕ)
+    (low : list_all (λ (a : Assignment). nat_lt a.word words) list ≡ true) where
   abbrev D : ℕ → ℕ → Bool
   D n = depends_within list outputs n
 
@@ -115,7 +117,8 @@ module _ (list : List Assignment) (outputs : List (ℕ × ℕ)) (words : ℕ) (l
   reached zero = inr (omega arith)
   reached (suc n) = by (reached n)
     where
-      by : Stable n ⊎ (n ≤ count (D n) (numbers_below words)) → Stable (suc n) ⊎ (suc n ≤ count (D (suc n)) (numbers_below words))
+      by : Stable n ⊎ (n ≤ count (D n) (numbers_below words)) → Stable (suc n)
+          ⊎ (suc n ≤ count (D (suc n)) (numbers_below words))
       by (inl stable) = inl (stable_next n stable)
       by (inr many) =
           elim (grows (D n) (D (suc n)) (λ w h. or_left (D n w) (feeds list (D n) w) h) (numbers_below words)).more [
@@ -129,7 +132,8 @@ module _ (list : List Assignment) (outputs : List (ℕ × ℕ)) (words : ℕ) (l
       by : Stable words ⊎ (words ≤ count (D words) (numbers_below words)) → D words w ≡ true
       by (inl stable) = sym (stable w small) ∙ or_true (D words w) (feeds list (D words) w) fed
       by (inr many) =
-          all_counted (D words) (numbers_below words) (omega (arith, many, length-range_with_len 0 words)) w (below_there words w small)
+          all_counted (D words) (numbers_below words) (omega (arith, many, length-range_with_len 0 words)) w
+          (below_there words w small)
 
   -- outputs are among them
   pub first_there : (n w : ℕ) → D 0 w ≡ true → D n w ≡ true

@@ -7,10 +7,20 @@ use Rattle.frame_pipe.specs.declared.framer.Framer.{Framer}
 
 -- the name of the pipe, which its two ends have: no two pipes that exist at one time have one name
 abbrev pub feed_name : Feed → PipeName
-feed_name f = record { words = f.producer.end.words; slots = f.producer.end.slots; names = f.producer.end.names; heap = f.producer.end.heap }
+feed_name f = record {
+  words = f.producer.end.words;
+  slots = f.producer.end.slots;
+  names = f.producer.end.names;
+  heap = f.producer.end.heap;
+}
 
 abbrev pub framer_name : Framer → PipeName
-framer_name f = record { words = f.consumer.end.words; slots = f.consumer.end.slots; names = f.consumer.end.names; heap = f.consumer.end.heap }
+framer_name f = record {
+  words = f.consumer.end.words;
+  slots = f.consumer.end.slots;
+  names = f.consumer.end.names;
+  heap = f.consumer.end.heap;
+}
 
 -- the copies that were put into the pipe, in order
 abbrev pub sent : Feed → List CopyValue

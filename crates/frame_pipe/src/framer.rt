@@ -24,7 +24,10 @@ impl Framer {
     /// Moves the next copy from the ring to the list. It answers false only where it knows of no copy in the ring, and
     /// then nothing changes. It never waits and takes no memory.
     pub fn take(&mut self) -> bool
-        ensures moved { MatchBool result ((copy : CopyValue) × (copies_taken self.new ≡ copies_taken self.old ++ copy ∷ []) × IsPrefix (known self.old) (copy ∷ known self.new)) ((copies_taken self.new ≡ copies_taken self.old) × (known self.old ≡ []) × (known self.new ≡ [])) }
+        ensures moved { MatchBool result
+            ((copy : CopyValue) × (copies_taken self.new ≡ copies_taken self.old ++ copy ∷ [])
+            × IsPrefix (known self.old) (copy ∷ known self.new))
+            ((copies_taken self.new ≡ copies_taken self.old) × (known self.old ≡ []) × (known self.new ≡ [])) }
         ensures name { framer_name self.new ≡ framer_name self.old }
     {
         let Ok(copy) = self.consumer.pop() else {
@@ -57,7 +60,8 @@ impl Framer {
     // Moves a copy that is known to be in the ring.
     pub(crate) fn take_known(&mut self)
         requires { 0 < length (known self.old) }
-        ensures { (copy : CopyValue) × (copies_taken self.new ≡ copies_taken self.old ++ copy ∷ []) × (known self.old ≡ copy ∷ known self.new) }
+        ensures { (copy : CopyValue) × (copies_taken self.new ≡ copies_taken self.old ++ copy ∷ [])
+            × (known self.old ≡ copy ∷ known self.new) }
     {
         let next = self.consumer.pop_known();
         self.copies.push_reserved(next);

@@ -41,7 +41,8 @@ lacks_transfer : (o : Option TransferValue) → lacks 32 (transfer_text o) ≡ t
 lacks_transfer None = refl
 lacks_transfer (Some t) =
     all-append (λ b. not (b == 32)) (set_text t.targets ++ codes "@") (decimal t.start)
-    (all-append (λ b. not (b == 32)) (set_text t.targets) (codes "@") (plain_lacks_all 32 (set_text t.targets) refl (plain-set t.targets)) refl) (lacks-decimal 32 t.start refl)
+    (all-append (λ b. not (b == 32)) (set_text t.targets) (codes "@")
+    (plain_lacks_all 32 (set_text t.targets) refl (plain-set t.targets)) refl) (lacks-decimal 32 t.start refl)
 
 lacks_remaining : (o : Option ℕ) → lacks 32 (remaining_text o) ≡ true
 lacks_remaining None = refl
@@ -83,48 +84,67 @@ slot_back slots.Switch = refl
 slot_back slots.Output = refl
 
 -- a text that is these fields and a line end is read as they say
-fields_back : (text field : TextValue) (fields : List TextValue) → text ≡ join_with_byte 32 (field ∷ fields) ++ line_end → lacks 32 field ≡ true → list_all (lacks 32) fields ≡ true →
+fields_back : (text field : TextValue) (fields : List TextValue) →
+    text ≡ join_with_byte 32 (field ∷ fields) ++ line_end → lacks 32 field ≡ true → list_all (lacks 32) fields ≡ true →
     pieces_at 32 (take (length text - 1) text) ≡ field ∷ fields
 fields_back text field fields h k l =
-    ap (λ x. pieces_at 32 (take (length x - 1) x)) h ∙ ap (pieces_at 32) (front_is (join_with_byte 32 (field ∷ fields))) ∙ split_join 32 field fields k l
+    ap (λ x. pieces_at 32 (take (length x - 1) x)) h ∙ ap (pieces_at 32) (front_is (join_with_byte 32 (field ∷ fields)))
+    ∙ split_join 32 field fields k l
 
 same_text : (text : TextValue) → bytes_eq text text ≡ true
 same_text text = (bytes_eq-Decides text text).1 refl
 
-read_by : (line : ReportLine) (fields : List TextValue) → is_form line ≡ true → pieces_at 32 (take (length (line_spelling line) - 1) (line_spelling line)) ≡ fields → line_at fields ≡ Some line →
+read_by : (line : ReportLine) (fields : List TextValue) → is_form line ≡ true →
+    pieces_at 32 (take (length (line_spelling line) - 1) (line_spelling line)) ≡ fields → line_at fields ≡ Some line →
     line_read (line_spelling line) ≡ Some line
 unfolding line_read
 read_by line fields form h k =
     ap (λ fs. option_and_then (if_spelled (line_spelling line)) (line_at fs)) h
     ∙ ap (option_and_then (if_spelled (line_spelling line))) k
-    ∙ ap (λ b. cond b (Some line) None) (and_true (is_form line) (bytes_eq (line_spelling line) (line_spelling line)) form (same_text (line_spelling line)))
+    ∙ ap (λ b. cond b (Some line) None)
+    (and_true (is_form line) (bytes_eq (line_spelling line) (line_spelling line)) form
+    (same_text (line_spelling line)))
 
 pub line_back : (line : ReportLine) → is_form line ≡ true → line_read (line_spelling line) ≡ Some line
 line_back (head_told n m) h =
     let parts = both (is_small n) (is_small m) h in
     let fields : List TextValue = codes "channels" ∷ decimal n ∷ codes "cycles" ∷ decimal m ∷ [] in
-    let whole : line_spelling (head_told n m) ≡ join_with_byte 32 (codes "guards" ∷ fields) ++ line_end = simp append_assoc in
+    let whole : line_spelling (head_told n m) ≡ join_with_byte 32 (codes "guards" ∷ fields) ++ line_end =
+    simp append_assoc in
     read_by (head_told n m) (codes "guards" ∷ fields) h
-    (fields_back (line_spelling (head_told n m)) (codes "guards") fields whole refl (and_true (lacks 32 (decimal n)) _ (lacks-decimal 32 n refl) (and_true (lacks 32 (decimal m)) true (lacks-decimal 32 m refl) refl)))
+    (fields_back (line_spelling (head_told n m)) (codes "guards") fields whole refl
+    (and_true (lacks 32 (decimal n)) _ (lacks-decimal 32 n refl)
+    (and_true (lacks 32 (decimal m)) true (lacks-decimal 32 m refl) refl)))
     (let a = number_back n parts.0 in let b = number_back m parts.1 in λ i. Some (head_told (a i) (b i)))
 line_back (cycle_told c active transfer) h =
     let parts = both (is_small c) (is_set active && if_there is_transfer transfer) h in
     let more = both (is_set active) (if_there is_transfer transfer) parts.1 in
-    let fields : List TextValue = decimal c ∷ codes "active" ∷ set_text active ∷ codes "transfer" ∷ transfer_text transfer ∷ [] in
-    let whole : line_spelling (cycle_told c active transfer) ≡ join_with_byte 32 (codes "cycle" ∷ fields) ++ line_end = simp append_assoc in
+    let fields : List TextValue =
+    decimal c ∷ codes "active" ∷ set_text active ∷ codes "transfer" ∷ transfer_text transfer ∷ [] in
+    let whole : line_spelling (cycle_told c active transfer) ≡ join_with_byte 32 (codes "cycle" ∷ fields) ++ line_end =
+    simp append_assoc in
     read_by (cycle_told c active transfer) (codes "cycle" ∷ fields) h
     (fields_back (line_spelling (cycle_told c active transfer)) (codes "cycle") fields whole refl
-    (and_true (lacks 32 (decimal c)) _ (lacks-decimal 32 c refl) (and_true (lacks 32 (set_text active)) _ (lacks_set active) (and_true (lacks 32 (transfer_text transfer)) true (lacks_transfer transfer) refl))))
-    (let a = number_back c parts.0 in let b = set_back active more.0 in let d = transfer_back transfer more.1 in λ i. Some (cycle_told (a i) (b i) (d i)))
+    (and_true (lacks 32 (decimal c)) _ (lacks-decimal 32 c refl)
+    (and_true (lacks 32 (set_text active)) _ (lacks_set active)
+    (and_true (lacks 32 (transfer_text transfer)) true (lacks_transfer transfer) refl))))
+    (let a = number_back c parts.0 in let b = set_back active more.0 in let d = transfer_back transfer more.1 in
+    λ i. Some (cycle_told (a i) (b i) (d i)))
 line_back (channel_told l) h =
-    let parts = both (is_channel l.channel) ((some_that is_word l.inputs && some_that is_cast l.votes) && (is_set l.judged && some_that is_small l.counts)) h in
-    let more = both (some_that is_word l.inputs && some_that is_cast l.votes) (is_set l.judged && some_that is_small l.counts) parts.1 in
+    let parts = both (is_channel l.channel)
+    ((some_that is_word l.inputs && some_that is_cast l.votes) && (is_set l.judged && some_that is_small l.counts))
+    h in
+    let more = both (some_that is_word l.inputs && some_that is_cast l.votes)
+    (is_set l.judged && some_that is_small l.counts) parts.1 in
     let words = both (some_that is_word l.inputs) (some_that is_cast l.votes) more.0 in
     let rest = both (is_set l.judged) (some_that is_small l.counts) more.1 in
     let votes : TextValue = join_with_byte 44 (map vote_text l.votes) in
     let counts : TextValue = join_with_byte 44 (map decimal l.counts) in
-    let fields : List TextValue = decimal l.channel ∷ codes "in" ∷ words_text l.inputs ∷ codes "vote" ∷ votes ∷ codes "judged" ∷ set_text l.judged ∷ codes "alpha" ∷ counts ∷ [] in
-    let whole : line_spelling (channel_told l) ≡ join_with_byte 32 (codes "ch" ∷ fields) ++ line_end = simp append_assoc in
+    let fields : List TextValue =
+    decimal l.channel ∷ codes "in" ∷ words_text l.inputs ∷ codes "vote" ∷ votes ∷ codes "judged" ∷ set_text l.judged
+    ∷ codes "alpha" ∷ counts ∷ [] in
+    let whole : line_spelling (channel_told l) ≡ join_with_byte 32 (codes "ch" ∷ fields) ++ line_end =
+    simp append_assoc in
     read_by (channel_told l) (codes "ch" ∷ fields) h
     (fields_back (line_spelling (channel_told l)) (codes "ch") fields whole refl
     (and_true (lacks 32 (decimal l.channel)) _ (lacks-decimal 32 l.channel refl)
@@ -137,26 +157,42 @@ line_back (channel_told l) h =
     let cast = votes_back l.votes words.1 in
     let judged = set_back l.judged rest.0 in
     let numbers = list_back l.counts rest.1 in
-    λ i. Some (channel_told (record { channel = p i; inputs = inputs i; votes = cast i; judged = judged i; counts = numbers i })))
+    λ i. Some (channel_told (record {
+      channel = p i;
+      inputs = inputs i;
+      votes = cast i;
+      judged = judged i;
+      counts = numbers i;
+    })))
 line_back (steps_told t) h =
     let fields : List TextValue = decimal t.channel ∷ steps_text t.steps ∷ [] in
-    let whole : line_spelling (steps_told t) ≡ join_with_byte 32 (codes "trace" ∷ fields) ++ line_end = simp append_assoc in
+    let whole : line_spelling (steps_told t) ≡ join_with_byte 32 (codes "trace" ∷ fields) ++ line_end =
+    simp append_assoc in
     let small : is_small t.channel ≡ true = channel_small t.channel h in
     read_by (steps_told t) (codes "trace" ∷ fields) h
-    (fields_back (line_spelling (steps_told t)) (codes "trace") fields whole refl (and_true (lacks 32 (decimal t.channel)) _ (lacks-decimal 32 t.channel refl) (and_true (lacks 32 (steps_text t.steps)) true (lacks_steps t.steps) refl)))
-    (let a = number_back t.channel small in let b = steps_back t.steps in λ i. Some (steps_told (record { channel = a i; steps = b i })))
+    (fields_back (line_spelling (steps_told t)) (codes "trace") fields whole refl
+    (and_true (lacks 32 (decimal t.channel)) _ (lacks-decimal 32 t.channel refl)
+    (and_true (lacks 32 (steps_text t.steps)) true (lacks_steps t.steps) refl)))
+    (let a = number_back t.channel small in let b = steps_back t.steps in
+    λ i. Some (steps_told (record { channel = a i; steps = b i })))
 line_back (end_told removed joined remaining) h =
     let parts = both (is_set removed) (is_set joined && if_there is_small remaining) h in
     let more = both (is_set joined) (if_there is_small remaining) parts.1 in
-    let fields : List TextValue = codes "removed" ∷ set_text removed ∷ codes "joined" ∷ set_text joined ∷ codes "remaining" ∷ remaining_text remaining ∷ [] in
-    let whole : line_spelling (end_told removed joined remaining) ≡ join_with_byte 32 (codes "end" ∷ fields) ++ line_end = simp append_assoc in
+    let fields : List TextValue =
+    codes "removed" ∷ set_text removed ∷ codes "joined" ∷ set_text joined ∷ codes "remaining"
+    ∷ remaining_text remaining ∷ [] in
+    let whole : line_spelling (end_told removed joined remaining)
+    ≡ join_with_byte 32 (codes "end" ∷ fields) ++ line_end = simp append_assoc in
     read_by (end_told removed joined remaining) (codes "end" ∷ fields) h
     (fields_back (line_spelling (end_told removed joined remaining)) (codes "end") fields whole refl
     (and_true (lacks 32 (set_text removed)) _ (lacks_set removed)
-    (and_true (lacks 32 (set_text joined)) _ (lacks_set joined) (and_true (lacks 32 (remaining_text remaining)) true (lacks_remaining remaining) refl))))
-    (let a = set_back removed parts.0 in let b = set_back joined more.0 in let d = remaining_back remaining more.1 in λ i. Some (end_told (a i) (b i) (d i)))
+    (and_true (lacks 32 (set_text joined)) _ (lacks_set joined)
+    (and_true (lacks 32 (remaining_text remaining)) true (lacks_remaining remaining) refl))))
+    (let a = set_back removed parts.0 in let b = set_back joined more.0 in let d = remaining_back remaining more.1 in
+    λ i. Some (end_told (a i) (b i) (d i)))
 line_back (out_told words) h =
-    let whole : line_spelling (out_told words) ≡ join_with_byte 32 (codes "out" ∷ words_text words ∷ []) ++ line_end = simp append_assoc in
+    let whole : line_spelling (out_told words) ≡ join_with_byte 32 (codes "out" ∷ words_text words ∷ []) ++ line_end =
+    simp append_assoc in
     read_by (out_told words) (codes "out" ∷ words_text words ∷ []) h
     (fields_back (line_spelling (out_told words)) (codes "out") (words_text words ∷ []) whole refl
     (and_true (lacks 32 (words_text words)) true (plain_lacks_all 32 (words_text words) refl (plain-words words)) refl))
@@ -164,24 +200,33 @@ line_back (out_told words) h =
 line_back (stop_told s) h =
     let parts = both (is_small s.cycle) (is_set s.set && is_set s.active) h in
     let more = both (is_set s.set) (is_set s.active) parts.1 in
-    let fields : List TextValue = codes "cycle" ∷ decimal s.cycle ∷ codes "slot" ∷ slot_text s.slot ∷ codes "disturbed" ∷ set_text s.set ∷ codes "active" ∷ set_text s.active ∷ [] in
-    let whole : line_spelling (stop_told s) ≡ join_with_byte 32 (codes "stop" ∷ fields) ++ line_end = simp append_assoc in
+    let fields : List TextValue =
+    codes "cycle" ∷ decimal s.cycle ∷ codes "slot" ∷ slot_text s.slot ∷ codes "disturbed" ∷ set_text s.set
+    ∷ codes "active" ∷ set_text s.active ∷ [] in
+    let whole : line_spelling (stop_told s) ≡ join_with_byte 32 (codes "stop" ∷ fields) ++ line_end =
+    simp append_assoc in
     read_by (stop_told s) (codes "stop" ∷ fields) h
     (fields_back (line_spelling (stop_told s)) (codes "stop") fields whole refl
     (and_true (lacks 32 (decimal s.cycle)) _ (lacks-decimal 32 s.cycle refl)
     (and_true (lacks 32 (slot_text s.slot)) _ (lacks_slot s.slot)
-    (and_true (lacks 32 (set_text s.set)) _ (lacks_set s.set) (and_true (lacks 32 (set_text s.active)) true (lacks_set s.active) refl)))))
-    (let a = number_back s.cycle parts.0 in let b = slot_back s.slot in let c = set_back s.set more.0 in let d = set_back s.active more.1 in
+    (and_true (lacks 32 (set_text s.set)) _ (lacks_set s.set)
+    (and_true (lacks 32 (set_text s.active)) true (lacks_set s.active) refl)))))
+    (let a = number_back s.cycle parts.0 in let b = slot_back s.slot in let c = set_back s.set more.0 in let d =
+    set_back s.active more.1 in
     λ i. option_map (λ slot. stop_told (record { cycle = a i; slot = slot; set = c i; active = d i })) (b i))
 line_back (done_told n) h =
-    let whole : line_spelling (done_told n) ≡ join_with_byte 32 (codes "done" ∷ decimal n ∷ []) ++ line_end = simp append_assoc in
+    let whole : line_spelling (done_told n) ≡ join_with_byte 32 (codes "done" ∷ decimal n ∷ []) ++ line_end =
+    simp append_assoc in
     read_by (done_told n) (codes "done" ∷ decimal n ∷ []) h
-    (fields_back (line_spelling (done_told n)) (codes "done") (decimal n ∷ []) whole refl (and_true (lacks 32 (decimal n)) true (lacks-decimal 32 n refl) refl))
+    (fields_back (line_spelling (done_told n)) (codes "done") (decimal n ∷ []) whole refl
+    (and_true (lacks 32 (decimal n)) true (lacks-decimal 32 n refl) refl))
     (ap (λ k. Some (done_told k)) (number_back n h))
 
 -- ---- what is read
 
-read_is : (text : TextValue) (line got : ReportLine) (b : Bool) → (is_form line && bytes_eq text (line_spelling line)) ≡ b → cond b (Some line) None ≡ Some got → (text ≡ line_spelling got) × (is_form got ≡ true)
+read_is : (text : TextValue) (line got : ReportLine) (b : Bool) →
+    (is_form line && bytes_eq text (line_spelling line)) ≡ b → cond b (Some line) None ≡ Some got →
+    (text ≡ line_spelling got) × (is_form got ≡ true)
 read_is text line got true e h =
     let parts = both (is_form line) (bytes_eq text (line_spelling line)) e in
     let same : line ≡ got = the_same line h in
@@ -194,14 +239,16 @@ read_is text line got false e h = absurd (none h)
     none : None ≡ Some got → ⊥
     none k = cc
 
-found_is : (text : TextValue) (o : Option ReportLine) (got : ReportLine) → option_and_then (if_spelled text) o ≡ Some got → (text ≡ line_spelling got) × (is_form got ≡ true)
+found_is : (text : TextValue) (o : Option ReportLine) (got : ReportLine) →
+    option_and_then (if_spelled text) o ≡ Some got → (text ≡ line_spelling got) × (is_form got ≡ true)
 found_is text None got h = absurd (none h)
   where
     none : None ≡ Some got → ⊥
     none k = cc
 found_is text (Some line) got h = read_is text line got (is_form line && bytes_eq text (line_spelling line)) refl h
 
-pub line_is : (text : TextValue) (line : ReportLine) → line_read text ≡ Some line → (text ≡ line_spelling line) × (is_form line ≡ true)
+pub line_is : (text : TextValue) (line : ReportLine) → line_read text ≡ Some line →
+    (text ≡ line_spelling line) × (is_form line ≡ true)
 unfolding line_read
 line_is text line h = found_is text (line_at (pieces_at 32 (take (length text - 1) text))) line h
 
@@ -213,7 +260,8 @@ one_line a b h k same = the_same (sym (line_back a h) ∙ ap line_read same ∙ 
     the_same : Some a ≡ Some b → a ≡ b
     the_same e = cc
 
-each_back : (lines : List ReportLine) → list_all is_form lines ≡ true → map line_read (map line_spelling lines) ≡ map (λ line. Some line) lines
+each_back : (lines : List ReportLine) → list_all is_form lines ≡ true →
+    map line_read (map line_spelling lines) ≡ map (λ line. Some line) lines
 each_back [] h = refl
 each_back (line ∷ lines) h =
     let parts = both (is_form line) (list_all is_form lines) h in
@@ -222,5 +270,6 @@ each_back (line ∷ lines) h =
     λ i. one i ∷ more i
 
 -- a text of lines is read line by line
-pub text_back : (lines : List ReportLine) → list_all is_form lines ≡ true → map line_read (lines_in (flat_map line_spelling lines)) ≡ map (λ line. Some line) lines
+pub text_back : (lines : List ReportLine) → list_all is_form lines ≡ true →
+    map line_read (lines_in (flat_map line_spelling lines)) ≡ map (λ line. Some line) lines
 text_back lines h = ap (map line_read) (lines_spelled lines) ∙ each_back lines h

@@ -30,11 +30,13 @@ pub record IsLine (line : TextValue) : Type 0 where
 
 -- ---- the lines of lines
 
-split_letter : (b : ℕ) (rest : TextValue) (last : Bool) → (b == 10) ≡ last → not last ≡ true → lines_in (b ∷ rest) ≡ onto_first b (lines_in rest)
+split_letter : (b : ℕ) (rest : TextValue) (last : Bool) → (b == 10) ≡ last → not last ≡ true →
+    lines_in (b ∷ rest) ≡ onto_first b (lines_in rest)
 split_letter b rest true e h = absurd cc
 split_letter b rest false e h = ap (λ t. cond t ((10 ∷ []) ∷ lines_in rest) (onto_first b (lines_in rest))) e
 
-split_body : (body rest : TextValue) → is_body body ≡ true → lines_in (body ++ 10 ∷ rest) ≡ (body ++ 10 ∷ []) ∷ lines_in rest
+split_body : (body rest : TextValue) → is_body body ≡ true →
+    lines_in (body ++ 10 ∷ rest) ≡ (body ++ 10 ∷ []) ∷ lines_in rest
 split_body [] rest h = refl
 split_body (b ∷ body) rest h =
     let parts = both (is_letter b) (is_body body) h in
@@ -60,7 +62,8 @@ pub are_mapped : {A : Type 0} (f : A → TextValue) (xs : List A) → ((x : A) �
 are_mapped f [] h = tt
 are_mapped f (x ∷ xs) h = (h x, are_mapped f xs h)
 
-pub lines_of_part : (part : Part) (rest : TextValue) → AreLines part → lines_in (part_text part ++ rest) ≡ part ++ lines_in rest
+pub lines_of_part : (part : Part) (rest : TextValue) → AreLines part →
+    lines_in (part_text part ++ rest) ≡ part ++ lines_in rest
 lines_of_part [] rest h = refl
 lines_of_part (line ∷ part) rest h =
     ap lines_in (append_assoc line (part_text part) rest)
@@ -81,7 +84,8 @@ are_more_parts (part ∷ parts) more h k = (h.0, are_more_parts parts more h.1 k
 
 pub lines_of_parts : (parts : List Part) → AreParts parts → lines_in (text_of_parts parts) ≡ all_lines parts
 lines_of_parts [] h = refl
-lines_of_parts (part ∷ parts) h = lines_of_part part (text_of_parts parts) h.0 ∙ ap (λ ls. part ++ ls) (lines_of_parts parts h.1)
+lines_of_parts (part ∷ parts) h =
+    lines_of_part part (text_of_parts parts) h.0 ∙ ap (λ ls. part ++ ls) (lines_of_parts parts h.1)
 
 -- ---- the letters of pieces
 
@@ -95,8 +99,10 @@ either_body false x y h k = k
 body_onto : (k n : ℕ) (acc : TextValue) → is_body acc ≡ true → is_body (digits_onto k 10 false n acc) ≡ true
 body_onto zero n acc h = h
 body_onto (suc k) n acc h =
-    let more : is_body (digit_glyph false (n % 10) ∷ acc) ≡ true = and_true (is_letter (digit_glyph false (n % 10))) (is_body acc) (glyph (n % 10)) h in
-    either_body (n / 10 == 0) (digit_glyph false (n % 10) ∷ acc) (digits_onto k 10 false (n / 10) (digit_glyph false (n % 10) ∷ acc))
+    let more : is_body (digit_glyph false (n % 10) ∷ acc) ≡ true =
+    and_true (is_letter (digit_glyph false (n % 10))) (is_body acc) (glyph (n % 10)) h in
+    either_body (n / 10 == 0) (digit_glyph false (n % 10) ∷ acc)
+    (digits_onto k 10 false (n / 10) (digit_glyph false (n % 10) ∷ acc))
     more (body_onto k (n / 10) (digit_glyph false (n % 10) ∷ acc) more)
 
 pub body-decimal : (n : ℕ) → is_body (decimal n) ≡ true
@@ -162,12 +168,17 @@ head_is_line n m =
     record {
       body = codes "guards channels " ++ decimal n ++ codes " cycles " ++ decimal m;
       letters = more_body (codes "guards channels " ++ decimal n ++ codes " cycles ") (decimal m)
-          (more_body (codes "guards channels " ++ decimal n) (codes " cycles ") (more_body (codes "guards channels ") (decimal n) refl (body-decimal n)) refl) (body-decimal m);
+          (more_body (codes "guards channels " ++ decimal n) (codes " cycles ")
+          (more_body (codes "guards channels ") (decimal n) refl (body-decimal n)) refl) (body-decimal m);
       whole = refl;
     }
 
 pub done_is_line : (n : ℕ) → IsLine (done_line n)
-done_is_line n = record { body = codes "done " ++ decimal n; letters = more_body (codes "done ") (decimal n) refl (body-decimal n); whole = refl }
+done_is_line n = record {
+  body = codes "done " ++ decimal n;
+  letters = more_body (codes "done ") (decimal n) refl (body-decimal n);
+  whole = refl;
+}
 
 pub cycle_is_line : (r : RecordValue) → IsLine (cycle_line r)
 cycle_is_line r =
@@ -179,7 +190,9 @@ cycle_is_line r =
       body = d ++ transfer_text r.transfer;
       letters = more_body d (transfer_text r.transfer)
           (more_body c (codes " transfer ")
-          (more_body b (set_text r.active) (more_body a (codes " active ") (more_body (codes "cycle ") (decimal r.cycle) refl (body-decimal r.cycle)) refl) (body-set r.active)) refl)
+          (more_body b (set_text r.active)
+          (more_body a (codes " active ") (more_body (codes "cycle ") (decimal r.cycle) refl (body-decimal r.cycle))
+          refl) (body-set r.active)) refl)
           (body-transfer r.transfer);
       whole = refl;
     }
@@ -202,7 +215,9 @@ channel_is_line l =
           (more_body e (codes " judged ")
           (more_body d (join_with_byte 44 (map vote_text l.votes))
           (more_body c (codes " vote ")
-          (more_body b (words_text l.inputs) (more_body a (codes " in ") (more_body (codes "ch ") (decimal l.channel) refl (body-decimal l.channel)) refl) (body-words l.inputs)) refl)
+          (more_body b (words_text l.inputs)
+          (more_body a (codes " in ") (more_body (codes "ch ") (decimal l.channel) refl (body-decimal l.channel))
+          refl) (body-words l.inputs)) refl)
           (body-votes l.votes)) refl)
           (body-set l.judged)) refl)
           (body-counts l.counts);
@@ -215,7 +230,9 @@ trace_is_line t =
     let b : TextValue = a ++ codes " " in
     record {
       body = b ++ steps_text t.steps;
-      letters = more_body b (steps_text t.steps) (more_body a (codes " ") (more_body (codes "trace ") (decimal t.channel) refl (body-decimal t.channel)) refl) (body-steps t.steps);
+      letters = more_body b (steps_text t.steps)
+          (more_body a (codes " ") (more_body (codes "trace ") (decimal t.channel) refl (body-decimal t.channel)) refl)
+          (body-steps t.steps);
       whole = refl;
     }
 
@@ -229,13 +246,20 @@ end_is_line r =
       body = d ++ remaining_text r.remaining;
       letters = more_body d (remaining_text r.remaining)
           (more_body c (codes " remaining ")
-          (more_body b (set_text r.joined) (more_body a (codes " joined ") (more_body (codes "end removed ") (set_text r.removed) refl (body-set r.removed)) refl) (body-set r.joined)) refl)
+          (more_body b (set_text r.joined)
+          (more_body a (codes " joined ")
+          (more_body (codes "end removed ") (set_text r.removed) refl (body-set r.removed)) refl)
+          (body-set r.joined)) refl)
           (body-remaining r.remaining);
       whole = refl;
     }
 
 pub out_is_line : (words : List ℤ) → IsLine (out_line words)
-out_is_line words = record { body = codes "out " ++ words_text words; letters = more_body (codes "out ") (words_text words) refl (body-words words); whole = refl }
+out_is_line words = record {
+  body = codes "out " ++ words_text words;
+  letters = more_body (codes "out ") (words_text words) refl (body-words words);
+  whole = refl;
+}
 
 body-slot : (slot : Slot) → is_body (slot_text slot) ≡ true
 body-slot slots.Request = refl
@@ -263,7 +287,10 @@ stop_is_line s =
           (more_body e (codes " active ")
           (more_body d (set_text s.set)
           (more_body c (codes " disturbed ")
-          (more_body b (slot_text s.slot) (more_body a (codes " slot ") (more_body (codes "stop cycle ") (decimal s.cycle) refl (body-decimal s.cycle)) refl) (body-slot s.slot)) refl)
+          (more_body b (slot_text s.slot)
+          (more_body a (codes " slot ")
+          (more_body (codes "stop cycle ") (decimal s.cycle) refl (body-decimal s.cycle)) refl) (body-slot s.slot))
+          refl)
           (body-set s.set)) refl)
           (body-set s.active);
       whole = refl;
@@ -278,7 +305,8 @@ spelling_is_line (head_told n m) = head_is_line n m
 spelling_is_line (cycle_told c active transfer) = cycle_is_line (opened_record c active transfer)
 spelling_is_line (channel_told l) = channel_is_line l
 spelling_is_line (steps_told t) = trace_is_line t
-spelling_is_line (end_told removed joined remaining) = end_is_line (closed_record (opened_record 0 [] None) removed joined remaining)
+spelling_is_line (end_told removed joined remaining) =
+    end_is_line (closed_record (opened_record 0 [] None) removed joined remaining)
 spelling_is_line (out_told words) = out_is_line words
 spelling_is_line (done_told n) = done_is_line n
 spelling_is_line (stop_told s) = stop_is_line s
@@ -286,7 +314,9 @@ spelling_is_line (stop_told s) = stop_is_line s
 -- a text of spelled lines falls into these
 pub lines_spelled : (lines : List ReportLine) → lines_in (flat_map line_spelling lines) ≡ map line_spelling lines
 lines_spelled [] = refl
-lines_spelled (line ∷ lines) = split_line (line_spelling line) (flat_map line_spelling lines) (spelling_is_line line) ∙ ap (λ ls. line_spelling line ∷ ls) (lines_spelled lines)
+lines_spelled (line ∷ lines) =
+    split_line (line_spelling line) (flat_map line_spelling lines) (spelling_is_line line)
+    ∙ ap (λ ls. line_spelling line ∷ ls) (lines_spelled lines)
 
 pub traces_are_lines : (trace : Bool) (traces : List TraceValue) → AreLines (cond trace (map trace_line traces) [])
 traces_are_lines true traces = are_mapped trace_line traces trace_is_line
@@ -296,6 +326,7 @@ pub cycle_part_is_lines : (trace : Bool) (r : RecordValue) → AreLines (cycle_p
 cycle_part_is_lines trace r = (
   cycle_is_line r,
   are_more (map channel_line r.lines ++ cond trace (map trace_line r.traces) []) (end_line r ∷ [])
-      (are_more (map channel_line r.lines) (cond trace (map trace_line r.traces) []) (are_mapped channel_line r.lines channel_is_line) (traces_are_lines trace r.traces))
+      (are_more (map channel_line r.lines) (cond trace (map trace_line r.traces) [])
+      (are_mapped channel_line r.lines channel_is_line) (traces_are_lines trace r.traces))
       (end_is_line r, tt),
 )

@@ -25,12 +25,14 @@ use Rattle.guards_model.proofs.ListTests.{all-append, all-map, weaken}
 abbrev pub lacks : ℕ → TextValue → Bool
 lacks c text = list_all (λ b. not (b == c)) text
 
-skip_letter : (c b : ℕ) (rest : TextValue) (is : Bool) → (b == c) ≡ is → not is ≡ true → pieces_at c (b ∷ rest) ≡ onto_first b (pieces_at c rest)
+skip_letter : (c b : ℕ) (rest : TextValue) (is : Bool) → (b == c) ≡ is → not is ≡ true →
+    pieces_at c (b ∷ rest) ≡ onto_first b (pieces_at c rest)
 skip_letter c b rest true e h = absurd cc
 skip_letter c b rest false e h = ap (λ t. cond t ([] ∷ pieces_at c rest) (onto_first b (pieces_at c rest))) e
 
 cut_letter : (c : ℕ) (rest : TextValue) → pieces_at c (c ∷ rest) ≡ [] ∷ pieces_at c rest
-cut_letter c rest = let same : (c == c) ≡ true = grind arith in ap (λ t. cond t ([] ∷ pieces_at c rest) (onto_first c (pieces_at c rest))) same
+cut_letter c rest = let same : (c == c) ≡ true = grind arith in
+    ap (λ t. cond t ([] ∷ pieces_at c rest) (onto_first c (pieces_at c rest))) same
 
 pub split_first : (c : ℕ) (x rest : TextValue) → lacks c x ≡ true → pieces_at c (x ++ c ∷ rest) ≡ x ∷ pieces_at c rest
 split_first c [] rest h = cut_letter c rest
@@ -44,7 +46,8 @@ split_none c (b ∷ x) h =
     let parts = both (not (b == c)) (lacks c x) h in
     skip_letter c b x (b == c) refl parts.0 ∙ ap (onto_first b) (split_none c x parts.1)
 
-pub split_join : (c : ℕ) (x : TextValue) (pieces : List TextValue) → lacks c x ≡ true → list_all (lacks c) pieces ≡ true → pieces_at c (join_with_byte c (x ∷ pieces)) ≡ x ∷ pieces
+pub split_join : (c : ℕ) (x : TextValue) (pieces : List TextValue) → lacks c x ≡ true →
+    list_all (lacks c) pieces ≡ true → pieces_at c (join_with_byte c (x ∷ pieces)) ≡ x ∷ pieces
 split_join c x [] h k = split_none c x h
 split_join c x (y ∷ pieces) h k =
     let parts = both (lacks c y) (list_all (lacks c) pieces) k in
@@ -59,7 +62,8 @@ is_digit b = nat_lt 47 b && nat_lt b 58
 abbrev pub is_plain : ℕ → Bool
 is_plain b = nat_lt 43 b && nat_lt b 58
 
-either_all : (P : ℕ → Bool) (b : Bool) (x y : TextValue) → list_all P x ≡ true → list_all P y ≡ true → list_all P (cond b x y) ≡ true
+either_all : (P : ℕ → Bool) (b : Bool) (x y : TextValue) → list_all P x ≡ true → list_all P y ≡ true →
+    list_all P (cond b x y) ≡ true
 either_all P true x y h k = h
 either_all P false x y h k = k
 
@@ -72,11 +76,14 @@ glyph n = subst (λ b. is_digit b ≡ true) (sym (glyph_is n)) (in_range (n % 10
     in_range : (d : ℕ) → d < 10 → is_digit (48 + d) ≡ true
     in_range d h = grind arith
 
-digits_from : (k n : ℕ) (acc : TextValue) → list_all is_digit acc ≡ true → list_all is_digit (digits_onto k 10 false n acc) ≡ true
+digits_from : (k n : ℕ) (acc : TextValue) → list_all is_digit acc ≡ true →
+    list_all is_digit (digits_onto k 10 false n acc) ≡ true
 digits_from zero n acc h = h
 digits_from (suc k) n acc h =
-    let more : list_all is_digit (digit_glyph false (n % 10) ∷ acc) ≡ true = and_true (is_digit (digit_glyph false (n % 10))) (list_all is_digit acc) (glyph n) h in
-    either_all is_digit (n / 10 == 0) (digit_glyph false (n % 10) ∷ acc) (digits_onto k 10 false (n / 10) (digit_glyph false (n % 10) ∷ acc))
+    let more : list_all is_digit (digit_glyph false (n % 10) ∷ acc) ≡ true =
+    and_true (is_digit (digit_glyph false (n % 10))) (list_all is_digit acc) (glyph n) h in
+    either_all is_digit (n / 10 == 0) (digit_glyph false (n % 10) ∷ acc)
+    (digits_onto k 10 false (n / 10) (digit_glyph false (n % 10) ∷ acc))
     more (digits_from k (n / 10) (digit_glyph false (n % 10) ∷ acc) more)
 
 pub digits-decimal : (n : ℕ) → list_all is_digit (decimal n) ≡ true
@@ -124,29 +131,36 @@ plain-signed (negsuc n) = plain-decimal (suc n)
 
 lacks-signed : (c : ℕ) (z : ℤ) → is_digit c ≡ false → (45 == c) ≡ false → lacks c (signed_decimal z) ≡ true
 lacks-signed c (pos n) out other = lacks-decimal c n out
-lacks-signed c (negsuc n) out other = and_true (not (45 == c)) (lacks c (decimal (suc n))) (ap not other) (lacks-decimal c (suc n) out)
+lacks-signed c (negsuc n) out other =
+    and_true (not (45 == c)) (lacks c (decimal (suc n))) (ap not other) (lacks-decimal c (suc n) out)
 
-plain-join : (x : TextValue) (pieces : List TextValue) → list_all is_plain x ≡ true → list_all (list_all is_plain) pieces ≡ true → list_all is_plain (join_with_byte 44 (x ∷ pieces)) ≡ true
+plain-join : (x : TextValue) (pieces : List TextValue) → list_all is_plain x ≡ true →
+    list_all (list_all is_plain) pieces ≡ true → list_all is_plain (join_with_byte 44 (x ∷ pieces)) ≡ true
 plain-join x [] h k = h
 plain-join x (y ∷ pieces) h k =
     let parts = both (list_all is_plain y) (list_all (list_all is_plain) pieces) k in
     all-append is_plain x (44 ∷ join_with_byte 44 (y ∷ pieces)) h (plain-join y pieces parts.0 parts.1)
 
-plain-pieces : (pieces : List TextValue) → list_all (list_all is_plain) pieces ≡ true → list_all is_plain (join_with_byte 44 pieces) ≡ true
+plain-pieces : (pieces : List TextValue) → list_all (list_all is_plain) pieces ≡ true →
+    list_all is_plain (join_with_byte 44 pieces) ≡ true
 plain-pieces [] k = refl
-plain-pieces (x ∷ pieces) k = let parts = both (list_all is_plain x) (list_all (list_all is_plain) pieces) k in plain-join x pieces parts.0 parts.1
+plain-pieces (x ∷ pieces) k = let parts = both (list_all is_plain x) (list_all (list_all is_plain) pieces) k in
+    plain-join x pieces parts.0 parts.1
 
 pub plain-set : (set : ChannelSet) → list_all is_plain (set_text set) ≡ true
 plain-set [] = refl
-plain-set (q ∷ set) = plain-join (decimal q) (map decimal set) (plain-decimal q) (all-map (list_all is_plain) decimal set plain-decimal)
+plain-set (q ∷ set) = plain-join (decimal q) (map decimal set) (plain-decimal q)
+    (all-map (list_all is_plain) decimal set plain-decimal)
 
 pub plain-words : (words : List ℤ) → list_all is_plain (words_text words) ≡ true
-plain-words words = plain-pieces (map signed_decimal words) (all-map (list_all is_plain) signed_decimal words plain-signed)
+plain-words words = plain-pieces (map signed_decimal words)
+    (all-map (list_all is_plain) signed_decimal words plain-signed)
 
 pub plain-numbers : (ns : List ℕ) → list_all is_plain (join_with_byte 44 (map decimal ns)) ≡ true
 plain-numbers ns = plain-pieces (map decimal ns) (all-map (list_all is_plain) decimal ns plain-decimal)
 
-pub plain_lacks_all : (c : ℕ) (text : TextValue) → is_plain c ≡ false → list_all is_plain text ≡ true → lacks c text ≡ true
+pub plain_lacks_all : (c : ℕ) (text : TextValue) → is_plain c ≡ false → list_all is_plain text ≡ true →
+    lacks c text ≡ true
 plain_lacks_all c text out h = weaken is_plain (λ b. not (b == c)) text (plain_lacks c out) h
 
 -- ---- numbers
@@ -184,7 +198,8 @@ starts_no_dash (b ∷ x) rest some h = by_first (b == 45) refl
             absurd_at k = cc
 
 -- the same, where more pieces follow
-join_no_dash : (x : TextValue) (pieces : List TextValue) → 0 < length x → list_all is_digit x ≡ true → is_dash (join_with_byte 44 (x ∷ pieces)) ≡ false
+join_no_dash : (x : TextValue) (pieces : List TextValue) → 0 < length x → list_all is_digit x ≡ true →
+    is_dash (join_with_byte 44 (x ∷ pieces)) ≡ false
 join_no_dash x [] some h = ap is_dash (sym (append-nil x)) ∙ starts_no_dash x [] some h
 join_no_dash x (y ∷ pieces) some h = starts_no_dash x (44 ∷ join_with_byte 44 (y ∷ pieces)) some h
 
@@ -192,7 +207,8 @@ some_digits : (n : ℕ) → is_small n ≡ true → 0 < length (decimal n)
 some_digits n h = (decimal_is_IsNumeral n (small_fits n h)).0.0
 
 pub number_no_dash : (n : ℕ) → is_small n ≡ true → is_dash (decimal n) ≡ false
-number_no_dash n h = ap is_dash (sym (append-nil (decimal n))) ∙ starts_no_dash (decimal n) [] (some_digits n h) (digits-decimal n)
+number_no_dash n h = ap is_dash (sym (append-nil (decimal n)))
+    ∙ starts_no_dash (decimal n) [] (some_digits n h) (digits-decimal n)
 
 -- ---- sets
 
@@ -210,8 +226,10 @@ set_by : (set : ChannelSet) → list_all is_small set ≡ true → set_in (set_t
 set_by [] h = refl
 set_by (q ∷ set) h =
     let parts = both (is_small q) (list_all is_small set) h in
-    ap (λ b. cond b [] (map number_in (pieces_at 44 (set_text (q ∷ set))))) (join_no_dash (decimal q) (map decimal set) (some_digits q parts.0) (digits-decimal q))
-    ∙ ap (map number_in) (split_join 44 (decimal q) (map decimal set) (lacks-decimal 44 q refl) (lacks_each 44 set refl))
+    ap (λ b. cond b [] (map number_in (pieces_at 44 (set_text (q ∷ set)))))
+    (join_no_dash (decimal q) (map decimal set) (some_digits q parts.0) (digits-decimal q))
+    ∙ ap (map number_in) (split_join 44 (decimal q) (map decimal set) (lacks-decimal 44 q refl)
+    (lacks_each 44 set refl))
     ∙ numbers_back (q ∷ set) h
 
 pub set_back : (set : ChannelSet) → is_set set ≡ true → set_in (set_text set) ≡ set
@@ -236,13 +254,16 @@ plus_none (b ∷ x) h = ap (λ s. drop (cond s 1 0) (b ∷ x)) (not_sign b (both
 unsigned : (x : TextValue) → list_all is_digit x ≡ true → signed_digits_value 10 x ≡ pos (digits_value 10 x)
 unsigned x h =
     let e = minus_none x h in
-    ap (λ b. cond b (neg_ℤ (pos (digits_value 10 (without_leading_sign x)))) (pos (digits_value 10 (without_leading_sign x)))) e
+    ap (λ b. cond b (neg_ℤ (pos (digits_value 10 (without_leading_sign x))))
+    (pos (digits_value 10 (without_leading_sign x)))) e
     ∙ ap (λ y. pos (digits_value 10 y)) (ap (λ b. cond b (drop 1 x) (without_leading_plus x)) e ∙ plus_none x h)
 
 pub word_back : (z : ℤ) → is_word z ≡ true → word_in (signed_decimal z) ≡ z
 unfolding is_word
-word_back (pos n) h = unsigned (decimal n) (digits-decimal n) ∙ ap pos (decimal_is_IsNumeral n (omega (arith, leb-true (suc n) (2 ^ 63) h))).1
-word_back (negsuc n) h = ap (λ k. neg_ℤ (pos k)) (decimal_is_IsNumeral (suc n) (omega (arith, leb-true (suc n) (2 ^ 63) h))).1
+word_back (pos n) h = unsigned (decimal n) (digits-decimal n)
+    ∙ ap pos (decimal_is_IsNumeral n (omega (arith, leb-true (suc n) (2 ^ 63) h))).1
+word_back (negsuc n) h = ap (λ k. neg_ℤ (pos k))
+    (decimal_is_IsNumeral (suc n) (omega (arith, leb-true (suc n) (2 ^ 63) h))).1
 
 words_by : (ws : List ℤ) → list_all is_word ws ≡ true → map word_in (map signed_decimal ws) ≡ ws
 words_by [] h = refl
@@ -255,12 +276,15 @@ words_by (w ∷ ws) h =
 pub words_back : (ws : List ℤ) → some_that is_word ws ≡ true → words_read (words_text ws) ≡ ws
 words_back [] h = absurd cc
 words_back (w ∷ ws) h =
-    ap (map word_in) (split_join 44 (signed_decimal w) (map signed_decimal ws) (lacks-signed 44 w refl refl) (all-map (lacks 44) signed_decimal ws (λ z. lacks-signed 44 z refl refl)))
+    ap (map word_in) (split_join 44 (signed_decimal w) (map signed_decimal ws) (lacks-signed 44 w refl refl)
+    (all-map (lacks 44) signed_decimal ws (λ z. lacks-signed 44 z refl refl)))
     ∙ words_by (w ∷ ws) h
 
 pub list_back : (ns : List ℕ) → some_that is_small ns ≡ true → numbers_in (join_with_byte 44 (map decimal ns)) ≡ ns
 list_back [] h = absurd cc
-list_back (n ∷ ns) h = ap (map number_in) (split_join 44 (decimal n) (map decimal ns) (lacks-decimal 44 n refl) (lacks_each 44 ns refl)) ∙ numbers_back (n ∷ ns) h
+list_back (n ∷ ns) h = ap (map number_in)
+    (split_join 44 (decimal n) (map decimal ns) (lacks-decimal 44 n refl) (lacks_each 44 ns refl))
+    ∙ numbers_back (n ∷ ns) h
 
 -- the words of votes that are there
 cast_words : List (Option ℤ) → List ℤ
@@ -283,51 +307,67 @@ cast_fine (Some w ∷ votes) h = by_rest votes (both (is_word w) (list_all is_ca
     rest : (vs : List (Option ℤ)) → list_all is_cast vs ≡ true → list_all is_word (cast_words vs) ≡ true
     rest [] k = refl
     rest (None ∷ vs) k = absurd cc
-    rest (Some v ∷ vs) k = let parts = both (is_word v) (list_all is_cast vs) k in and_true (is_word v) (list_all is_word (cast_words vs)) parts.0 (rest vs parts.1)
+    rest (Some v ∷ vs) k = let parts = both (is_word v) (list_all is_cast vs) k in
+        and_true (is_word v) (list_all is_word (cast_words vs)) parts.0 (rest vs parts.1)
 
-    by_rest : (vs : List (Option ℤ)) → (is_word w ≡ true) × (list_all is_cast vs ≡ true) → list_all is_word (w ∷ cast_words vs) ≡ true
+    by_rest : (vs : List (Option ℤ)) → (is_word w ≡ true) × (list_all is_cast vs ≡ true) →
+        list_all is_word (w ∷ cast_words vs) ≡ true
     by_rest vs parts = and_true (is_word w) (list_all is_word (cast_words vs)) parts.0 (rest vs parts.1)
 
 votes_text : (ws : List ℤ) → map vote_text (map (λ w. Some w) ws) ≡ map signed_decimal ws
 votes_text [] = refl
 votes_text (w ∷ ws) = ap (λ ps. signed_decimal w ∷ ps) (votes_text ws)
 
-pub votes_back : (votes : List (Option ℤ)) → some_that is_cast votes ≡ true → map (λ w. Some w) (words_read (join_with_byte 44 (map vote_text votes))) ≡ votes
+pub votes_back : (votes : List (Option ℤ)) → some_that is_cast votes ≡ true →
+    map (λ w. Some w) (words_read (join_with_byte 44 (map vote_text votes))) ≡ votes
 votes_back votes h =
-    let is : map (λ w. Some w) (cast_words votes) ≡ votes = cast_is votes (both (not (is_empty votes)) (list_all is_cast votes) h).1 in
+    let is : map (λ w. Some w) (cast_words votes) ≡ votes =
+    cast_is votes (both (not (is_empty votes)) (list_all is_cast votes) h).1 in
     ap (λ vs. map (λ w. Some w) (words_read (join_with_byte 44 (map vote_text vs)))) (sym is)
     ∙ ap (λ ps. map (λ w. Some w) (words_read (join_with_byte 44 ps))) (votes_text (cast_words votes))
     ∙ ap (map (λ w. Some w)) (words_back (cast_words votes) (cast_fine votes h))
     ∙ is
 
-pub plain-votes : (votes : List (Option ℤ)) → some_that is_cast votes ≡ true → list_all is_plain (join_with_byte 44 (map vote_text votes)) ≡ true
+pub plain-votes : (votes : List (Option ℤ)) → some_that is_cast votes ≡ true →
+    list_all is_plain (join_with_byte 44 (map vote_text votes)) ≡ true
 plain-votes votes h =
-    let is : map (λ w. Some w) (cast_words votes) ≡ votes = cast_is votes (both (not (is_empty votes)) (list_all is_cast votes) h).1 in
+    let is : map (λ w. Some w) (cast_words votes) ≡ votes =
+    cast_is votes (both (not (is_empty votes)) (list_all is_cast votes) h).1 in
     subst (λ vs. list_all is_plain (join_with_byte 44 (map vote_text vs)) ≡ true) is
-    (subst (λ ps. list_all is_plain (join_with_byte 44 ps) ≡ true) (sym (votes_text (cast_words votes))) (plain-words (cast_words votes)))
+    (subst (λ ps. list_all is_plain (join_with_byte 44 ps) ≡ true) (sym (votes_text (cast_words votes)))
+    (plain-words (cast_words votes)))
 
 -- ---- transfers, remaining blocks and steps
 
-at_no_dash : (targets : ChannelSet) (rest : TextValue) → list_all is_small targets ≡ true → is_dash (set_text targets ++ 64 ∷ rest) ≡ false
+at_no_dash : (targets : ChannelSet) (rest : TextValue) → list_all is_small targets ≡ true →
+    is_dash (set_text targets ++ 64 ∷ rest) ≡ false
 at_no_dash [] rest h = refl
-at_no_dash (q ∷ []) rest h = starts_no_dash (decimal q) (64 ∷ rest) (some_digits q (both (is_small q) true h).0) (digits-decimal q)
+at_no_dash (q ∷ []) rest h =
+    starts_no_dash (decimal q) (64 ∷ rest) (some_digits q (both (is_small q) true h).0) (digits-decimal q)
 at_no_dash (q ∷ p ∷ targets) rest h =
     ap is_dash (append_assoc (decimal q) (44 ∷ join_with_byte 44 (decimal p ∷ map decimal targets)) (64 ∷ rest))
-    ∙ starts_no_dash (decimal q) (44 ∷ (join_with_byte 44 (decimal p ∷ map decimal targets) ++ 64 ∷ rest)) (some_digits q (both (is_small q) (list_all is_small (p ∷ targets)) h).0) (digits-decimal q)
+    ∙ starts_no_dash (decimal q) (44 ∷ (join_with_byte 44 (decimal p ∷ map decimal targets) ++ 64 ∷ rest))
+    (some_digits q (both (is_small q) (list_all is_small (p ∷ targets)) h).0) (digits-decimal q)
 
 pub transfer_back : (o : Option TransferValue) → if_there is_transfer o ≡ true → transfer_read (transfer_text o) ≡ o
 transfer_back None h = refl
 transfer_back (Some t) h =
     let parts = both (is_set t.targets) (is_small t.start) h in
-    let whole : transfer_text (Some t) ≡ set_text t.targets ++ 64 ∷ decimal t.start = append_assoc (set_text t.targets) (codes "@") (decimal t.start) in
+    let whole : transfer_text (Some t) ≡ set_text t.targets ++ 64 ∷ decimal t.start =
+    append_assoc (set_text t.targets) (codes "@") (decimal t.start) in
     ap transfer_read whole
-    ∙ ap (λ b. cond b None (transfer_at (pieces_at 64 (set_text t.targets ++ 64 ∷ decimal t.start)))) (at_no_dash t.targets (decimal t.start) (set_small t.targets parts.0))
-    ∙ ap transfer_at (split_first 64 (set_text t.targets) (decimal t.start) (plain_lacks_all 64 (set_text t.targets) refl (plain-set t.targets)) ∙ ap (λ ps. set_text t.targets ∷ ps) (split_none 64 (decimal t.start) (lacks-decimal 64 t.start refl)))
-    ∙ (let targets = set_back t.targets parts.0 in let start = number_back t.start parts.1 in λ i. Some (record { targets = targets i; start = start i }))
+    ∙ ap (λ b. cond b None (transfer_at (pieces_at 64 (set_text t.targets ++ 64 ∷ decimal t.start))))
+    (at_no_dash t.targets (decimal t.start) (set_small t.targets parts.0))
+    ∙ ap transfer_at (split_first 64 (set_text t.targets) (decimal t.start)
+    (plain_lacks_all 64 (set_text t.targets) refl (plain-set t.targets))
+    ∙ ap (λ ps. set_text t.targets ∷ ps) (split_none 64 (decimal t.start) (lacks-decimal 64 t.start refl)))
+    ∙ (let targets = set_back t.targets parts.0 in let start = number_back t.start parts.1 in
+    λ i. Some (record { targets = targets i; start = start i }))
 
 pub remaining_back : (o : Option ℕ) → if_there is_small o ≡ true → remaining_read (remaining_text o) ≡ o
 remaining_back None h = refl
-remaining_back (Some n) h = ap (λ b. cond b None (Some (number_in (decimal n)))) (number_no_dash n h) ∙ ap (λ k. Some k) (number_back n h)
+remaining_back (Some n) h =
+    ap (λ b. cond b None (Some (number_in (decimal n)))) (number_no_dash n h) ∙ ap (λ k. Some k) (number_back n h)
 
 step_back : (s : Actor) (rest : TextValue) → map step_of (step_text s ++ rest) ≡ s ∷ map step_of rest
 step_back actor.Task rest = refl
@@ -344,4 +384,5 @@ step_no_dash actor.Sweep rest = refl
 pub steps_back : (steps : List Actor) → steps_read (steps_text steps) ≡ steps
 steps_back [] = refl
 steps_back (s ∷ steps) =
-    ap (λ b. cond b [] (map step_of (flat_map step_text (s ∷ steps)))) (step_no_dash s (flat_map step_text steps)) ∙ letters_back (s ∷ steps)
+    ap (λ b. cond b [] (map step_of (flat_map step_text (s ∷ steps)))) (step_no_dash s (flat_map step_text steps))
+    ∙ letters_back (s ∷ steps)

@@ -16,10 +16,18 @@ use Rattle.guards_audit.proofs.LinesBack.{text_back}
 
 -- a cycle of which the lines from some line of a channel's steps on are told
 abbrev pub from_steps : CycleTold → List TraceValue → CycleTold
-from_steps t traces = record { record_told = record (closed_record (opened_record 0 [] None) t.record_told.removed t.record_told.joined t.record_told.remaining) { traces = traces }; words = t.words }
+from_steps t traces = record {
+  record_told =
+      record (closed_record (opened_record 0 [] None) t.record_told.removed t.record_told.joined
+      t.record_told.remaining) { traces = traces };
+  words = t.words;
+}
 
 abbrev pub from_lines : CycleTold → List LineValue → CycleTold
-from_lines t lines = record (from_steps t t.record_told.traces) { record_told = record (from_steps t t.record_told.traces).record_told { lines = lines } }
+from_lines t lines = record (from_steps t t.record_told.traces) {
+  record_told =
+      record (from_steps t t.record_told.traces).record_told { lines = lines };
+}
 
 -- the lines do not begin with an actuator's words
 abbrev pub Begins : List ReportLine → Type 0
@@ -27,12 +35,18 @@ Begins (out_told words ∷ lines) = ⊥
 Begins _ = Unit {0}
 
 end_back : (t : CycleTold) (more : List ReportLine) → Begins more →
-    cycles_in (end_told t.record_told.removed t.record_told.joined t.record_told.remaining ∷ (words_lines t.words ++ more)) ≡ from_steps t [] ∷ cycles_in more
+    cycles_in (end_told t.record_told.removed t.record_told.joined t.record_told.remaining
+    ∷ (words_lines t.words ++ more)) ≡ from_steps t [] ∷ cycles_in more
 end_back t more h = by_words t.words more h
   where
     by_words : (o : Option (List ℤ)) (more : List ReportLine) → Begins more →
-        cycles_in (end_told t.record_told.removed t.record_told.joined t.record_told.remaining ∷ (words_lines o ++ more))
-        ≡ record { record_told = closed_record (opened_record 0 [] None) t.record_told.removed t.record_told.joined t.record_told.remaining; words = o } ∷ cycles_in more
+        cycles_in (end_told t.record_told.removed t.record_told.joined t.record_told.remaining
+        ∷ (words_lines o ++ more))
+        ≡ record {
+          record_told = closed_record (opened_record 0 [] None) t.record_told.removed t.record_told.joined
+              t.record_told.remaining;
+          words = o;
+        } ∷ cycles_in more
     by_words (Some words) more h = refl
     by_words None [] h = refl
     by_words None (head_told n m ∷ more) h = refl
@@ -44,34 +58,44 @@ end_back t more h = by_words t.words more h
     by_words None (done_told n ∷ more) h = refl
     by_words None (stop_told s ∷ more) h = refl
 
-steps_onto : (t : CycleTold) (traces : List TraceValue) (rest : List ReportLine) (more : List CycleTold) → cycles_in rest ≡ from_steps t [] ∷ more →
+steps_onto : (t : CycleTold) (traces : List TraceValue) (rest : List ReportLine) (more : List CycleTold) →
+    cycles_in rest ≡ from_steps t [] ∷ more →
     cycles_in (map steps_told traces ++ rest) ≡ from_steps t traces ∷ more
 steps_onto t [] rest more h = h
-steps_onto t (s ∷ traces) rest more h = ap (onto_cycle (λ r. record r { traces = s ∷ r.traces })) (steps_onto t traces rest more h)
+steps_onto t (s ∷ traces) rest more h =
+    ap (onto_cycle (λ r. record r { traces = s ∷ r.traces })) (steps_onto t traces rest more h)
 
-lines_onto : (t : CycleTold) (ls : List LineValue) (rest : List ReportLine) (more : List CycleTold) → cycles_in rest ≡ from_steps t t.record_told.traces ∷ more →
+lines_onto : (t : CycleTold) (ls : List LineValue) (rest : List ReportLine) (more : List CycleTold) →
+    cycles_in rest ≡ from_steps t t.record_told.traces ∷ more →
     cycles_in (map channel_told ls ++ rest) ≡ from_lines t ls ∷ more
 lines_onto t [] rest more h = h
-lines_onto t (l ∷ ls) rest more h = ap (onto_cycle (λ r. record r { lines = l ∷ r.lines })) (lines_onto t ls rest more h)
+lines_onto t (l ∷ ls) rest more h =
+    ap (onto_cycle (λ r. record r { lines = l ∷ r.lines })) (lines_onto t ls rest more h)
 
-one_cycle : (t : CycleTold) (rest : List ReportLine) → Begins rest → cycles_in (record_lines t.record_told (words_lines t.words ++ rest)) ≡ t ∷ cycles_in rest
+one_cycle : (t : CycleTold) (rest : List ReportLine) → Begins rest →
+    cycles_in (record_lines t.record_told (words_lines t.words ++ rest)) ≡ t ∷ cycles_in rest
 one_cycle t rest h =
     let r : RecordValue = t.record_told in
     let end : List ReportLine = end_told r.removed r.joined r.remaining ∷ (words_lines t.words ++ rest) in
     ap (onto_cycle (λ (x : RecordValue). record x { cycle = r.cycle; active = r.active; transfer = r.transfer }))
-    (lines_onto t r.lines (map steps_told r.traces ++ end) (cycles_in rest) (steps_onto t r.traces end (cycles_in rest) (end_back t rest h)))
+    (lines_onto t r.lines (map steps_told r.traces ++ end) (cycles_in rest)
+    (steps_onto t r.traces end (cycles_in rest) (end_back t rest h)))
 
-more_lines : (r : RecordValue) (more rest : List ReportLine) → record_lines r more ++ rest ≡ record_lines r (more ++ rest)
+more_lines : (r : RecordValue) (more rest : List ReportLine) →
+    record_lines r more ++ rest ≡ record_lines r (more ++ rest)
 more_lines r more rest =
     ap (λ ls. cycle_told r.cycle r.active r.transfer ∷ ls)
-    (append_assoc (map channel_told r.lines) (map steps_told r.traces ++ end_told r.removed r.joined r.remaining ∷ more) rest
-    ∙ ap (λ ls. map channel_told r.lines ++ ls) (append_assoc (map steps_told r.traces) (end_told r.removed r.joined r.remaining ∷ more) rest))
+    (append_assoc (map channel_told r.lines) (map steps_told r.traces ++ end_told r.removed r.joined r.remaining ∷ more)
+    rest
+    ∙ ap (λ ls. map channel_told r.lines ++ ls)
+    (append_assoc (map steps_told r.traces) (end_told r.removed r.joined r.remaining ∷ more) rest))
 
 last_begins : (cycles : ℕ) (stop : Option StopValue) → Begins (last_line_told cycles stop ∷ [])
 last_begins cycles None = tt
 last_begins cycles (Some s) = tt
 
-cycles_begin : (told : List CycleTold) (cycles : ℕ) (stop : Option StopValue) → Begins (flat_map cycle_lines told ++ last_line_told cycles stop ∷ [])
+cycles_begin : (told : List CycleTold) (cycles : ℕ) (stop : Option StopValue) →
+    Begins (flat_map cycle_lines told ++ last_line_told cycles stop ∷ [])
 cycles_begin [] cycles stop = last_begins cycles stop
 cycles_begin (t ∷ told) cycles stop = tt
 
@@ -79,11 +103,13 @@ last_none : (cycles : ℕ) (stop : Option StopValue) → cycles_in (last_line_to
 last_none cycles None = refl
 last_none cycles (Some s) = refl
 
-all_cycles : (told : List CycleTold) (cycles : ℕ) (stop : Option StopValue) → cycles_in (flat_map cycle_lines told ++ last_line_told cycles stop ∷ []) ≡ told
+all_cycles : (told : List CycleTold) (cycles : ℕ) (stop : Option StopValue) →
+    cycles_in (flat_map cycle_lines told ++ last_line_told cycles stop ∷ []) ≡ told
 all_cycles [] cycles stop = last_none cycles stop
 all_cycles (t ∷ told) cycles stop =
     let rest : List ReportLine = flat_map cycle_lines told ++ last_line_told cycles stop ∷ [] in
-    ap cycles_in (append_assoc (cycle_lines t) (flat_map cycle_lines told) (last_line_told cycles stop ∷ []) ∙ more_lines t.record_told (words_lines t.words) rest)
+    ap cycles_in (append_assoc (cycle_lines t) (flat_map cycle_lines told) (last_line_told cycles stop ∷ [])
+    ∙ more_lines t.record_told (words_lines t.words) rest)
     ∙ one_cycle t rest (cycles_begin told cycles stop)
     ∙ ap (λ ts. t ∷ ts) (all_cycles told cycles stop)
 
@@ -111,17 +137,21 @@ words_inner (Some words) = refl
 cycle_inner : (t : CycleTold) → list_all is_inner (cycle_lines t) ≡ true
 cycle_inner t =
     let r : RecordValue = t.record_told in
-    all-append is_inner (map channel_told r.lines) (map steps_told r.traces ++ end_told r.removed r.joined r.remaining ∷ words_lines t.words)
+    all-append is_inner (map channel_told r.lines)
+    (map steps_told r.traces ++ end_told r.removed r.joined r.remaining ∷ words_lines t.words)
     (all-map is_inner channel_told r.lines (λ l. refl))
-    (all-append is_inner (map steps_told r.traces) (end_told r.removed r.joined r.remaining ∷ words_lines t.words) (all-map is_inner steps_told r.traces (λ s. refl)) (words_inner t.words))
+    (all-append is_inner (map steps_told r.traces) (end_told r.removed r.joined r.remaining ∷ words_lines t.words)
+    (all-map is_inner steps_told r.traces (λ s. refl)) (words_inner t.words))
 
 last_stop : (cycles : ℕ) (stop : Option StopValue) → stop_among (last_line_told cycles stop ∷ []) ≡ stop
 last_stop cycles None = refl
 last_stop cycles (Some s) = refl
 
-the_stop : (told : List CycleTold) (cycles : ℕ) (stop : Option StopValue) → stop_among (flat_map cycle_lines told ++ last_line_told cycles stop ∷ []) ≡ stop
+the_stop : (told : List CycleTold) (cycles : ℕ) (stop : Option StopValue) →
+    stop_among (flat_map cycle_lines told ++ last_line_told cycles stop ∷ []) ≡ stop
 the_stop told cycles stop =
-    skip (flat_map cycle_lines told) (last_line_told cycles stop ∷ []) (all-flat_map is_inner cycle_lines told cycle_inner) ∙ last_stop cycles stop
+    skip (flat_map cycle_lines told) (last_line_told cycles stop ∷ [])
+    (all-flat_map is_inner cycle_lines told cycle_inner) ∙ last_stop cycles stop
 
 -- ---- the report
 
@@ -131,7 +161,8 @@ told_back r =
     let stop = the_stop r.told r.cycles r.stop in
     λ i. Some (record { channels = r.channels; cycles = r.cycles; told = told i; stop = stop i })
 
-those_there : (lines : List ReportLine) → filter_map (λ (line : Option ReportLine). line) (map (λ line. Some line) lines) ≡ lines
+those_there : (lines : List ReportLine) →
+    filter_map (λ (line : Option ReportLine). line) (map (λ line. Some line) lines) ≡ lines
 those_there [] = refl
 those_there (line ∷ lines) = ap (λ ls. line ∷ ls) (those_there lines)
 
@@ -144,14 +175,19 @@ report_back r h =
     ap (λ ls. if_its_text (text_of_report r) (told_by (filter_map (λ line. line) ls))) (text_back (lines_of r) h)
     ∙ ap (λ ls. if_its_text (text_of_report r) (told_by ls)) (those_there (lines_of r))
     ∙ ap (if_its_text (text_of_report r)) (told_back r)
-    ∙ ap (λ b. cond b (Some r) None) (and_true (list_all is_form (lines_of r)) (bytes_eq (text_of_report r) (text_of_report r)) h (same_text (text_of_report r)))
+    ∙ ap (λ b. cond b (Some r) None)
+    (and_true (list_all is_form (lines_of r)) (bytes_eq (text_of_report r) (text_of_report r)) h
+    (same_text (text_of_report r)))
 
-read_by : (text : TextValue) (r got : ReportValue) (b : Bool) → (list_all is_form (lines_of r) && bytes_eq text (text_of_report r)) ≡ b → cond b (Some r) None ≡ Some got →
+read_by : (text : TextValue) (r got : ReportValue) (b : Bool) →
+    (list_all is_form (lines_of r) && bytes_eq text (text_of_report r)) ≡ b → cond b (Some r) None ≡ Some got →
     (text ≡ text_of_report got) × (list_all is_form (lines_of got) ≡ true)
 read_by text r got true e h =
     let parts = both (list_all is_form (lines_of r)) (bytes_eq text (text_of_report r)) e in
-    let same : r ≡ got = the_same r h in
-    ((bytes_eq-Decides text (text_of_report r)).0 parts.1 ∙ ap text_of_report same, sym (ap (λ x. list_all is_form (lines_of x)) same) ∙ parts.0)
+    let same : r ≡ got = the_same r h in (
+      (bytes_eq-Decides text (text_of_report r)).0 parts.1 ∙ ap text_of_report same,
+      sym (ap (λ x. list_all is_form (lines_of x)) same) ∙ parts.0,
+    )
   where
     the_same : (x : ReportValue) → Some x ≡ Some got → x ≡ got
     the_same x h = cc
@@ -160,13 +196,16 @@ read_by text r got false e h = absurd (none h)
     none : None ≡ Some got → ⊥
     none k = cc
 
-found : (text : TextValue) (o : Option ReportValue) (got : ReportValue) → if_its_text text o ≡ Some got → (text ≡ text_of_report got) × (list_all is_form (lines_of got) ≡ true)
+found : (text : TextValue) (o : Option ReportValue) (got : ReportValue) → if_its_text text o ≡ Some got →
+    (text ≡ text_of_report got) × (list_all is_form (lines_of got) ≡ true)
 found text None got h = absurd (none h)
   where
     none : None ≡ Some got → ⊥
     none k = cc
-found text (Some r) got h = read_by text r got (list_all is_form (lines_of r) && bytes_eq text (text_of_report r)) refl h
+found text (Some r) got h =
+    read_by text r got (list_all is_form (lines_of r) && bytes_eq text (text_of_report r)) refl h
 
-pub report_is : (text : TextValue) (r : ReportValue) → report_of text ≡ Some r → (text ≡ text_of_report r) × (list_all is_form (lines_of r) ≡ true)
+pub report_is : (text : TextValue) (r : ReportValue) → report_of text ≡ Some r →
+    (text ≡ text_of_report r) × (list_all is_form (lines_of r) ≡ true)
 unfolding report_of
 report_is text r h = found text (told_by (filter_map (λ line. line) (map line_read (lines_in text)))) r h

@@ -53,7 +53,8 @@ line_spelling (head_told channels cycles) = head_line channels cycles
 line_spelling (cycle_told c active transfer) = cycle_line (opened_record c active transfer)
 line_spelling (channel_told l) = channel_line l
 line_spelling (steps_told t) = trace_line t
-line_spelling (end_told removed joined remaining) = end_line (closed_record (opened_record 0 [] None) removed joined remaining)
+line_spelling (end_told removed joined remaining) =
+    end_line (closed_record (opened_record 0 [] None) removed joined remaining)
 line_spelling (out_told words) = out_line words
 line_spelling (done_told cycles) = done_line cycles
 line_spelling (stop_told s) = stop_line s

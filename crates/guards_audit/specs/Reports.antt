@@ -63,9 +63,11 @@ cycles_in (cycle_told c active transfer ∷ lines) =
 cycles_in (channel_told l ∷ lines) = onto_cycle (λ r. record r { lines = l ∷ r.lines }) (cycles_in lines)
 cycles_in (steps_told t ∷ lines) = onto_cycle (λ r. record r { traces = t ∷ r.traces }) (cycles_in lines)
 cycles_in (end_told removed joined remaining ∷ out_told words ∷ lines) =
-    record { record_told = closed_record (opened_record 0 [] None) removed joined remaining; words = Some words } ∷ cycles_in lines
+    record { record_told = closed_record (opened_record 0 [] None) removed joined remaining; words = Some words }
+    ∷ cycles_in lines
 cycles_in (end_told removed joined remaining ∷ lines) =
-    record { record_told = closed_record (opened_record 0 [] None) removed joined remaining; words = None } ∷ cycles_in lines
+    record { record_told = closed_record (opened_record 0 [] None) removed joined remaining; words = None }
+    ∷ cycles_in lines
 cycles_in (_ ∷ lines) = cycles_in lines
 
 -- the stop that some lines tell, if there is one

@@ -85,7 +85,8 @@ abbrev pub votes_fit : MissionValue → Told → LineValue → Bool
 votes_fit M told l =
     same_votes l.votes
     (map (λ w. Some w)
-    (output_words M (whole (cycle_writes M (next_cycle_number told)) (context_told M told) (next_cycle_number told) l.inputs)))
+    (output_words M (whole (cycle_writes M (next_cycle_number told)) (context_told M told) (next_cycle_number told)
+    l.inputs)))
 
 -- as many inputs as the mission's width; only active channels are judged
 abbrev pub first_fits : MissionValue → Told → RecordValue → LineValue → Bool

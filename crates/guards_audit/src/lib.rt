@@ -1,5 +1,5 @@
-//! The lines of reports and traces, read back, and when a text is a trace that a mission may have: each line is judged by
-//! the lines before it alone, and no frame, tag or node is asked. The definitions stand in `specs/`; each law is the
+//! The lines of reports and traces, read back, and when a text is a trace that a mission may have: each line is judged
+//! by the lines before it alone, and no frame, tag or node is asked. The definitions stand in `specs/`; each law is the
 //! contract of a function without a body.
 #![tactic(auto)]
 

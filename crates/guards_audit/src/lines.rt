@@ -13,7 +13,8 @@ pub fn lines_are_read()
     ensures back { (line : ReportLine) → is_form line ≡ true → line_read (line_spelling line) ≡ Some line }
     ensures spelled { (text : TextValue) (line : ReportLine) → line_read text ≡ Some line →
         (text ≡ line_spelling line) × (is_form line ≡ true) }
-    ensures single { (a b : ReportLine) → is_form a ≡ true → is_form b ≡ true → line_spelling a ≡ line_spelling b → a ≡ b }
+    ensures single { (a b : ReportLine) → is_form a ≡ true → is_form b ≡ true → line_spelling a ≡ line_spelling b →
+        a ≡ b }
 {}
 
 /// A text that is made of lines falls into just these, and each is read.

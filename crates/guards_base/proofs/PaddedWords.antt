@@ -9,7 +9,8 @@ pub padded_words : (places : ℕ) (words : List ℤ) → 1 ≤ length words → 
 padded_words places words least most =
     let zeros : List ℤ = drop (length words) (replicate places (pos 0)) in
     let left : length zeros ≡ places - length words =
-    length-drop (length words) (replicate places (pos 0)) ∙ ap (λ n. n - length words) (length-replicate places (pos 0)) in
+    length-drop (length words) (replicate places (pos 0))
+    ∙ ap (λ n. n - length words) (length-replicate places (pos 0)) in
     record {
       whole = length-append words zeros ∙ ap (λ n. length words + n) left ∙ grind (arith, most);
       least = least;

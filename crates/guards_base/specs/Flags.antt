@@ -8,7 +8,8 @@ use Rattle.guards_model.proofs.Masks.{tried}
 -- the mask of the channels that pass the test
 abbrev pub mask_where : (Channel → Bool) → ℕ
 mask_where f =
-    (if f 0 then 1 else 0) + (if f 1 then 2 else 0) + (if f 2 then 4 else 0) + (if f 3 then 8 else 0) + (if f 4 then 16 else 0)
+    (if f 0 then 1 else 0) + (if f 1 then 2 else 0) + (if f 2 then 4 else 0) + (if f 3 then 8 else 0) + (if f 4 then 16
+    else 0)
     + (if f 5 then 32 else 0) + (if f 6 then 64 else 0)
 
 -- ---- the set of that mask, by trying each seven truth values
@@ -32,16 +33,25 @@ weighed a b c d e f g = cond a 1 0 + cond b 2 0 + cond c 4 0 + cond d 8 0 + cond
 abbrev is_kept : Bool → Bool → Bool → Bool → Bool → Bool → Bool → Bool
 is_kept a b c d e f g = same_list (set_of_mask (weighed a b c d e f g)) (kept a b c d e f g)
 
-each_kept : either_way (λ a. either_way (λ b. either_way (λ c. either_way (λ d. either_way (λ e. either_way (λ f. either_way (λ g. is_kept a b c d e f g))))))) ≡ true
+each_kept : either_way (λ a.
+    either_way (λ b. either_way
+    (λ c. either_way (λ d. either_way (λ e. either_way (λ f. either_way (λ g. is_kept a b c d e f g))))))) ≡ true
 unfolding channels_where set_of_mask
 each_kept = refl
 
 set_kept : (a b c d e f g : Bool) → set_of_mask (weighed a b c d e f g) ≡ kept a b c d e f g
 set_kept a b c d e f g =
-    let at_a = either_way-true (λ a. either_way (λ b. either_way (λ c. either_way (λ d. either_way (λ e. either_way (λ f. either_way (λ g. is_kept a b c d e f g))))))) each_kept a in
-    let at_b = either_way-true (λ b. either_way (λ c. either_way (λ d. either_way (λ e. either_way (λ f. either_way (λ g. is_kept a b c d e f g)))))) at_a b in
-    let at_c = either_way-true (λ c. either_way (λ d. either_way (λ e. either_way (λ f. either_way (λ g. is_kept a b c d e f g))))) at_b c in
-    let at_d = either_way-true (λ d. either_way (λ e. either_way (λ f. either_way (λ g. is_kept a b c d e f g)))) at_c d in
+    let at_a = either_way-true
+    (λ a. either_way (λ b. either_way
+    (λ c. either_way (λ d. either_way (λ e. either_way (λ f. either_way (λ g. is_kept a b c d e f g))))))) each_kept
+    a in
+    let at_b = either_way-true
+    (λ b. either_way (λ c. either_way
+    (λ d. either_way (λ e. either_way (λ f. either_way (λ g. is_kept a b c d e f g)))))) at_a b in
+    let at_c = either_way-true
+    (λ c. either_way (λ d. either_way (λ e. either_way (λ f. either_way (λ g. is_kept a b c d e f g))))) at_b c in
+    let at_d = either_way-true (λ d. either_way (λ e. either_way (λ f. either_way (λ g. is_kept a b c d e f g)))) at_c
+    d in
     let at_e = either_way-true (λ e. either_way (λ f. either_way (λ g. is_kept a b c d e f g))) at_d e in
     let at_f = either_way-true (λ f. either_way (λ g. is_kept a b c d e f g)) at_e f in
     same_list-true _ _ (either_way-true (λ g. is_kept a b c d e f g) at_f g)

@@ -49,7 +49,8 @@ each_channel p m = list_all (p m) (range_with_len 0 7)
 tried_both : (p : ℕ → ℕ → Bool) → list_all (λ m. list_all (p m) (range_with_len 0 7)) (range_with_len 0 128) ≡ true
     → (m q : ℕ) → m < 128 → q < 7 → p m q ≡ true
 tried_both p all m q low high =
-    tried (p m) 7 0 q (tried (λ m. list_all (p m) (range_with_len 0 7)) 128 0 m all (omega arith) low) (omega arith) high
+    tried (p m) 7 0 q (tried (λ m. list_all (p m) (range_with_len 0 7)) 128 0 m all (omega arith) low) (omega arith)
+    high
 
 abbrev is_bit : ℕ → ℕ → Bool
 is_bit m q = same_bool (has (set_of_mask m) q) (bit m q)
@@ -77,7 +78,8 @@ unfolding channels_where set_of_mask
 each_with = refl
 
 with_parts : (m q : ℕ) → m < 128 → q < 7 →
-    (nat_lt (mask_with m q) 128 ≡ true) × (same_list (set_of_mask (mask_with m q)) (union (set_of_mask m) (q ∷ [])) ≡ true)
+    (nat_lt (mask_with m q) 128 ≡ true)
+    × (same_list (set_of_mask (mask_with m q)) (union (set_of_mask m) (q ∷ [])) ≡ true)
 with_parts m q low high = both _ _ (tried_both is_with each_with m q low high)
 
 pub mask_with-below : (m q : ℕ) → m < 128 → q < 7 → mask_with m q < 128
@@ -87,13 +89,15 @@ pub set_of_mask-with : (m q : ℕ) → m < 128 → q < 7 → set_of_mask (mask_w
 set_of_mask-with m q low high = same_list-true _ _ (with_parts m q low high).1
 
 abbrev is_without : ℕ → ℕ → Bool
-is_without m q = nat_lt (mask_without m q) 128 && same_list (set_of_mask (mask_without m q)) (without (set_of_mask m) (q ∷ []))
+is_without m q = nat_lt (mask_without m q) 128
+    && same_list (set_of_mask (mask_without m q)) (without (set_of_mask m) (q ∷ []))
 
 each_without : list_all (λ m. list_all (is_without m) (range_with_len 0 7)) (range_with_len 0 128) ≡ true
 unfolding channels_where set_of_mask
 each_without = refl
 
-pub set_of_mask-without : (m q : ℕ) → m < 128 → q < 7 → set_of_mask (mask_without m q) ≡ without (set_of_mask m) (q ∷ [])
+pub set_of_mask-without : (m q : ℕ) → m < 128 → q < 7 →
+    set_of_mask (mask_without m q) ≡ without (set_of_mask m) (q ∷ [])
 set_of_mask-without m q low high = same_list-true _ _ (both _ _ (tried_both is_without each_without m q low high)).1
 
 -- ---- the number of channels
@@ -123,7 +127,8 @@ each_below : list_all is_below (range_with_len 0 8) ≡ true
 unfolding channels_where set_of_mask
 each_below = refl
 
-below_parts : (n : ℕ) → n ≤ 7 → (nat_lt (mask_below n) 128 ≡ true) × (same_list (set_of_mask (mask_below n)) (numbers_below n) ≡ true)
+below_parts : (n : ℕ) → n ≤ 7 →
+    (nat_lt (mask_below n) 128 ≡ true) × (same_list (set_of_mask (mask_below n)) (numbers_below n) ≡ true)
 below_parts n most = both _ _ (tried is_below 8 0 n each_below (omega arith) (omega arith))
 
 pub mask_below-below : (n : ℕ) → n ≤ 7 → mask_below n < 128

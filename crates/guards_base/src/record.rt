@@ -20,7 +20,13 @@ impl Model for ChannelLine {
 
     ghost Value = { LineValue };
 
-    ghost view = { λ l. record { channel = l.chan; inputs = l.inputs; votes = l.votes; judged = l.judged; counts = l.alphas } };
+    ghost view = { λ l. record {
+      channel = l.chan;
+      inputs = l.inputs;
+      votes = l.votes;
+      judged = l.judged;
+      counts = l.alphas;
+    } };
 }
 
 /// The steps of a channel's round, in order: 0 for a write and 1 for a copy.
@@ -67,5 +73,14 @@ impl Model for CycleRecord {
 
     ghost Value = { RecordValue };
 
-    ghost view = { λ r. record { cycle = r.cycle; active = r.active; transfer = transfer_of_pair r.transfer; lines = r.lines.items; traces = r.traces.items; removed = r.removed; joined = r.joined; remaining = r.remaining } };
+    ghost view = { λ r. record {
+      cycle = r.cycle;
+      active = r.active;
+      transfer = transfer_of_pair r.transfer;
+      lines = r.lines.items;
+      traces = r.traces.items;
+      removed = r.removed;
+      joined = r.joined;
+      remaining = r.remaining;
+    } };
 }

@@ -33,7 +33,29 @@ impl Model for Rules {
 
     ghost Value = { RulesValue };
 
-    ghost view = { λ r. record { channels = r.channels; blocks = r.blocks; version = r.version; law = r.law; keep = r.keep; decrement = r.decrement; threshold = r.threshold; sweep = r.sweep; last = r.last; returning = r.returning } };
+    ghost view = { λ r. record {
+      channels = r.channels;
+      blocks = r.blocks;
+      version = r.version;
+      law = r.law;
+      keep = r.keep;
+      decrement = r.decrement;
+      threshold = r.threshold;
+      sweep = r.sweep;
+      last = r.last;
+      returning = r.returning;
+    } };
 
-    ghost inverse = { λ v. record { channels = v.channels; blocks = v.blocks; version = v.version; law = v.law; keep = v.keep; decrement = v.decrement; threshold = v.threshold; sweep = v.sweep; last = v.last; returning = v.returning } };
+    ghost inverse = { λ v. record {
+      channels = v.channels;
+      blocks = v.blocks;
+      version = v.version;
+      law = v.law;
+      keep = v.keep;
+      decrement = v.decrement;
+      threshold = v.threshold;
+      sweep = v.sweep;
+      last = v.last;
+      returning = v.returning;
+    } };
 }

@@ -28,9 +28,15 @@ impl Model for SourceWord {
 
     ghost invariant = { λ w. IsPadded 4 w.width w.words × (list_all (λ code. nat_le code 2) w.heard ≡ true) };
 
-    ghost inverse = { λ v. record { width = length v.words; words = padded 4 v.words; accuse = v.accuse; heard = v.heard } };
+    ghost inverse = { λ v. record {
+      width = length v.words;
+      words = padded 4 v.words;
+      accuse = v.accuse;
+      heard = v.heard;
+    } };
 
-    ghost inverse_ok = { λ w h. ap (λ used. record { width = used.0; words = used.1; accuse = w.accuse; heard = w.heard })
+    ghost inverse_ok = { λ w h.
+        ap (λ used. record { width = used.0; words = used.1; accuse = w.accuse; heard = w.heard })
         (used_back 4 w.width w.words h.0) };
 }
 
@@ -55,7 +61,8 @@ impl Model for Ballot {
 
     ghost inverse = { λ words. record { count = length words; words = padded 8 words } };
 
-    ghost inverse_ok = { λ b h. ap (λ used. record { count = used.0; words = used.1 }) (used_back 8 b.count b.words h) };
+    ghost inverse_ok = { λ b h.
+        ap (λ used. record { count = used.0; words = used.1 }) (used_back 8 b.count b.words h) };
 }
 
 impl SourceWord {

@@ -7,8 +7,8 @@ use Rattle.guards_io.specs.Views.{SourceView}
 use Rattle.guards_io.specs.declared.reading.ReadStop.{ReadStop}
 use Rattle.guards_io.specs.declared.reading.ReadStop.TheVariants.{Failed, TooLong, Memory}
 
--- The bytes are all that was left. One byte too many was taken. The source failed before either. Memory ran out, and no more
--- than that one byte too many was taken.
+-- The bytes are all that was left. One byte too many was taken. The source failed before either. Memory ran out, and no
+-- more than that one byte too many was taken.
 abbrev pub ReadsAll : ℕ → SourceView → SourceView → Result (Seen ℕ) ReadStop → Type 0
 ReadsAll limit old new (Ok bytes) =
     (length bytes.items ≤ limit) × Consumes old.left new.left bytes.items × IsAtEnd new.left × (new.faults ≡ old.faults)

@@ -27,22 +27,29 @@ use Rattle.guards_laws.proofs.QuietEvents.{IsDeaf, cycle_seen, seen_of_slot, non
 
 module _ (p : Channel) where
   -- a channel's own steps are seen, and no others
-  own : (q : Channel) (history : List Actor) → (q == p) ≡ true → filter_map (step_by p) (map (step_event q) history) ≡ history
+  own : (q : Channel) (history : List Actor) → (q == p) ≡ true →
+      filter_map (step_by p) (map (step_event q) history) ≡ history
   own q [] h = refl
   own q (Task ∷ history) h =
-      ap (λ b. cons_option (cond b (Some Task) None) (filter_map (step_by p) (map (step_event q) history))) h ∙ ap (λ l. Task ∷ l) (own q history h)
+      ap (λ b. cons_option (cond b (Some Task) None) (filter_map (step_by p) (map (step_event q) history))) h
+      ∙ ap (λ l. Task ∷ l) (own q history h)
   own q (Sweep ∷ history) h =
-      ap (λ b. cons_option (cond b (Some Sweep) None) (filter_map (step_by p) (map (step_event q) history))) h ∙ ap (λ l. Sweep ∷ l) (own q history h)
+      ap (λ b. cons_option (cond b (Some Sweep) None) (filter_map (step_by p) (map (step_event q) history))) h
+      ∙ ap (λ l. Sweep ∷ l) (own q history h)
 
-  others : (q : Channel) (history : List Actor) → (q == p) ≡ false → filter_map (step_by p) (map (step_event q) history) ≡ []
+  others : (q : Channel) (history : List Actor) → (q == p) ≡ false →
+      filter_map (step_by p) (map (step_event q) history) ≡ []
   others q [] h = refl
   others q (Task ∷ history) h =
-      ap (λ b. cons_option (cond b (Some Task) None) (filter_map (step_by p) (map (step_event q) history))) h ∙ others q history h
+      ap (λ b. cons_option (cond b (Some Task) None) (filter_map (step_by p) (map (step_event q) history))) h
+      ∙ others q history h
   others q (Sweep ∷ history) h =
-      ap (λ b. cons_option (cond b (Some Sweep) None) (filter_map (step_by p) (map (step_event q) history))) h ∙ others q history h
+      ap (λ b. cons_option (cond b (Some Sweep) None) (filter_map (step_by p) (map (step_event q) history))) h
+      ∙ others q history h
 
   -- a channel that stands before all of an ascending list is not in it
-  not_after : (q : Channel) (xs : ChannelSet) → list_all (λ y. nat_lt q y) xs ≡ true → (q == p) ≡ true → has xs p ≡ false
+  not_after : (q : Channel) (xs : ChannelSet) → list_all (λ y. nat_lt q y) xs ≡ true → (q == p) ≡ true →
+      has xs p ≡ false
   not_after q [] h is = refl
   not_after q (x ∷ xs) h is =
       let parts = both (nat_lt q x) (list_all (λ y. nat_lt q y) xs) h in
@@ -53,40 +60,58 @@ module _ (p : Channel) where
       apart false same low = refl
 
   of_channels : (steps : Steps) (qs : ChannelSet) → ascends qs ≡ true →
-      flat_map (λ q. filter_map (step_by p) (map (step_event q) (steps_of steps q))) qs ≡ cond (has qs p) (steps_of steps p) []
+      flat_map (λ q. filter_map (step_by p) (map (step_event q) (steps_of steps q))) qs
+      ≡ cond (has qs p) (steps_of steps p) []
   of_channels steps [] h = refl
   of_channels steps (q ∷ qs) h =
       let parts = both (list_all (λ y. nat_lt q y) qs) (ascends qs) h in
       step (q == p) refl parts.0 (of_channels steps qs parts.1)
     where
       step : (b : Bool) → (q == p) ≡ b → list_all (λ y. nat_lt q y) qs ≡ true →
-          flat_map (λ q. filter_map (step_by p) (map (step_event q) (steps_of steps q))) qs ≡ cond (has qs p) (steps_of steps p) [] →
-          flat_map (λ q. filter_map (step_by p) (map (step_event q) (steps_of steps q))) (q ∷ qs) ≡ cond (b || has qs p) (steps_of steps p) []
+          flat_map (λ q. filter_map (step_by p) (map (step_event q) (steps_of steps q))) qs
+          ≡ cond (has qs p) (steps_of steps p) [] →
+          flat_map (λ q. filter_map (step_by p) (map (step_event q) (steps_of steps q))) (q ∷ qs)
+          ≡ cond (b || has qs p) (steps_of steps p) []
       step true is later rest =
-          ap (λ l. l ++ flat_map (λ q. filter_map (step_by p) (map (step_event q) (steps_of steps q))) qs) (own q (steps_of steps q) is ∙ ap (steps_of steps) (eqb-true q p is))
+          ap (λ l. l ++ flat_map (λ q. filter_map (step_by p) (map (step_event q) (steps_of steps q))) qs)
+          (own q (steps_of steps q) is ∙ ap (steps_of steps) (eqb-true q p is))
           ∙ ap (λ l. steps_of steps p ++ l) (rest ∙ ap (λ b. cond b (steps_of steps p) []) (not_after q qs later is))
           ∙ append-nil (steps_of steps p)
       step false is later rest =
-          ap (λ l. l ++ flat_map (λ q. filter_map (step_by p) (map (step_event q) (steps_of steps q))) qs) (others q (steps_of steps q) is) ∙ rest
+          ap (λ l. l ++ flat_map (λ q. filter_map (step_by p) (map (step_event q) (steps_of steps q))) qs)
+          (others q (steps_of steps q) is) ∙ rest
 
   deaf : IsDeaf (step_by p)
-  deaf = record { crashes = λ q. refl; restarts = λ q. refl; waits = λ q. refl; damages = λ q block word value. refl; senses = λ q words. refl; ticks = refl }
+  deaf = record {
+    crashes = λ q. refl;
+    restarts = λ q. refl;
+    waits = λ q. refl;
+    damages = λ q block word value. refl;
+    senses = λ q words. refl;
+    ticks = refl;
+  }
 
   -- of a slot the steps alone are seen
-  of_slot : (steps : Steps) (e : Cycle) (slot : Slot) → seen_of_slot (step_by p) deaf steps e slot ≡ filter_map (step_by p) (round_events steps e slot)
+  of_slot : (steps : Steps) (e : Cycle) (slot : Slot) →
+      seen_of_slot (step_by p) deaf steps e slot ≡ filter_map (step_by p) (round_events steps e slot)
   of_slot steps e slot =
       ap (λ l. l ++ filter_map (step_by p) (round_events steps e slot))
-      (none_mapped (step_by p) deliver (filter (λ (entry : EntryValue). same_slot entry.slot slot) e.entries) (λ entry. refl))
+      (none_mapped (step_by p) deliver (filter (λ (entry : EntryValue). same_slot entry.slot slot) e.entries)
+      (λ entry. refl))
 
   pub of_cycle : (M : MissionValue) (L : Log) (n : ℕ) (steps : Steps) → IsMission M →
-      steps_among p (cycle_events M steps (cycles_before M L n) (cycle_at M L n)) ≡ cond (has (channels_running_in Tasks (cycle_at M L n)) p) (steps_of steps p) []
+      steps_among p (cycle_events M steps (cycles_before M L n) (cycle_at M L n))
+      ≡ cond (has (channels_running_in Tasks (cycle_at M L n)) p) (steps_of steps p) []
   of_cycle M L n steps mission =
       let past = cycles_before M L n in
       let e = cycle_at M L n in
       let here = channels_running_in Tasks e in
-      let set : ascends e.active ≡ true = subst (λ (s : ChannelSet). ascends s ≡ true) (sym (active-is M L past)) (set_parts _ (active_is_set M past mission)).1 in
+      let set : ascends e.active ≡ true =
+      subst (λ (s : ChannelSet). ascends s ≡ true) (sym (active-is M L past))
+      (set_parts _ (active_is_set M past mission)).1 in
       cycle_seen (step_by p) deaf M steps past e
-      ∙ flat_alike (seen_of_slot (step_by p) deaf steps e) (λ slot. filter_map (step_by p) (round_events steps e slot)) every_slot (of_slot steps e)
+      ∙ flat_alike (seen_of_slot (step_by p) deaf steps e) (λ slot. filter_map (step_by p) (round_events steps e slot))
+      every_slot (of_slot steps e)
       ∙ append-nil (filter_map (step_by p) (round_events steps e Tasks))
       ∙ through_flat (step_by p) (λ q. map (step_event q) (steps_of steps q)) here
       ∙ of_channels steps here (ascends-filter (λ q. is_up (mode_in e q Tasks)) e.active set)

@@ -10,7 +10,8 @@ use Rattle.guards_runs.specs.Report.{told_cycles}
 use Rattle.guards_laws.proofs.LogGrows.{length-cycles_before}
 
 -- the first stop stays the first
-pub stop_stays : (M : MissionValue) (L : Log) (n : ℕ) (stop : StopValue) → stop_of (cycles_before M L n) ≡ None → stop_in n (cycle_at M L n) ≡ Some stop → (k m : ℕ) → m ≡ n + suc k →
+pub stop_stays : (M : MissionValue) (L : Log) (n : ℕ) (stop : StopValue) → stop_of (cycles_before M L n) ≡ None →
+    stop_in n (cycle_at M L n) ≡ Some stop → (k m : ℕ) → m ≡ n + suc k →
     stop_of (cycles_before M L m) ≡ Some stop
 stop_stays M L n stop unstopped stops zero m h =
     let e : m ≡ suc n = omega (arith, h) in
@@ -20,7 +21,8 @@ stop_stays M L n stop unstopped stops zero m h =
 stop_stays M L n stop unstopped stops (suc k) m h =
     let e : m ≡ suc (n + suc k) = omega (arith, h) in
     rw e
-    (ap (λ o. first_of_two o (stop_in (length (cycles_before M L (n + suc k))) (cycle_at M L (n + suc k)))) (stop_stays M L n stop unstopped stops k (n + suc k) refl))
+    (ap (λ o. first_of_two o (stop_in (length (cycles_before M L (n + suc k))) (cycle_at M L (n + suc k))))
+    (stop_stays M L n stop unstopped stops k (n + suc k) refl))
 
 pub told_whole : (past : Past) → stop_of past ≡ None → told_cycles past ≡ past
 told_whole [] h = refl

@@ -52,14 +52,16 @@ use Rattle.guards_laws.proofs.Agreement.{agrees}
 differ : false ≡ true → ⊥
 differ h = cc
 
-no_crash : (script : List FaultValue) (q c : ℕ) (slot : Slot) → list_all is_harmless script ≡ true → list_any (is_crash_by q c slot) script ≡ false
+no_crash : (script : List FaultValue) (q c : ℕ) (slot : Slot) → list_all is_harmless script ≡ true →
+    list_any (is_crash_by q c slot) script ≡ false
 no_crash [] q c slot h = refl
 no_crash (crash p d s ∷ script) q c slot h = absurd cc
 no_crash (restart p d ∷ script) q c slot h = no_crash script q c slot h
 no_crash (damage p d block word value ∷ script) q c slot h = absurd cc
 no_crash (bus rule ∷ script) q c slot h = absurd cc
 
-no_damage : (script : List FaultValue) (q c : ℕ) → list_all is_harmless script ≡ true → list_any (is_damage q c) script ≡ false
+no_damage : (script : List FaultValue) (q c : ℕ) → list_all is_harmless script ≡ true →
+    list_any (is_damage q c) script ≡ false
 no_damage [] q c h = refl
 no_damage (crash p d s ∷ script) q c h = absurd cc
 no_damage (restart p d ∷ script) q c h = no_damage script q c h
@@ -74,13 +76,15 @@ no_rules (damage p d block word value ∷ script) h = absurd cc
 no_rules (bus rule ∷ script) h = absurd cc
 
 -- a restart is of a channel that there is
-no_restart : (M : MissionValue) (script : List FaultValue) (q c : ℕ) → list_all is_harmless script ≡ true → list_all (is_fault M) script ≡ true → M.rules.channels ≤ q → list_any (is_restart q c) script ≡ false
+no_restart : (M : MissionValue) (script : List FaultValue) (q c : ℕ) → list_all is_harmless script ≡ true →
+    list_all (is_fault M) script ≡ true → M.rules.channels ≤ q → list_any (is_restart q c) script ≡ false
 no_restart M [] q c h fits high = refl
 no_restart M (crash p d s ∷ script) q c h fits high = absurd cc
 no_restart M (restart p d ∷ script) q c h fits high =
     let parts = both (is_fault M (restart p d)) (list_all (is_fault M) script) fits in
     let low = (both (nat_lt d M.cycles) (nat_lt p M.rules.channels) parts.0).1 in
-    ap (λ b. (b && d == c) || list_any (is_restart q c) script) (other (p == q) refl (leb-true (suc p) M.rules.channels low)) ∙ no_restart M script q c h parts.1 high
+    ap (λ b. (b && d == c) || list_any (is_restart q c) script)
+    (other (p == q) refl (leb-true (suc p) M.rules.channels low)) ∙ no_restart M script q c h parts.1 high
   where
     other : (b : Bool) → (p == q) ≡ b → p < M.rules.channels → b ≡ false
     other true e low = absurd (omega (arith, eqb-true p q e, low, high))
@@ -97,14 +101,17 @@ off : (a : Bool) → (a && false) ≡ false
 off true = refl
 off false = refl
 
-none_charged : (L : Log) (c k : ℕ) (slot : Slot) (q : Channel) → AllByRecursion (IsScripted []) L → list_any (is_charge c slot q) (entries_of k L) ≡ false
+none_charged : (L : Log) (c k : ℕ) (slot : Slot) (q : Channel) → AllByRecursion (IsScripted []) L →
+    list_any (is_charge c slot q) (entries_of k L) ≡ false
 none_charged [] c k slot q h = refl
 none_charged (x ∷ L) c k slot q h = by_kept (x.cycle == k) (none_charged L c k slot q h.1)
   where
     fine : is_charge c slot q x ≡ false
-    fine = ap (λ b. ((x.cycle == c && up_to x.slot slot) && x.from == q) && b) (as_sent x h.0) ∙ off ((x.cycle == c && up_to x.slot slot) && x.from == q)
+    fine = ap (λ b. ((x.cycle == c && up_to x.slot slot) && x.from == q) && b) (as_sent x h.0)
+        ∙ off ((x.cycle == c && up_to x.slot slot) && x.from == q)
 
-    by_kept : (b : Bool) → list_any (is_charge c slot q) (entries_of k L) ≡ false → list_any (is_charge c slot q) (cond b (x ∷ entries_of k L) (entries_of k L)) ≡ false
+    by_kept : (b : Bool) → list_any (is_charge c slot q) (entries_of k L) ≡ false →
+        list_any (is_charge c slot q) (cond b (x ∷ entries_of k L) (entries_of k L)) ≡ false
     by_kept true rest = ap (λ b. b || list_any (is_charge c slot q) (entries_of k L)) fine ∙ rest
     by_kept false rest = rest
 
@@ -113,21 +120,28 @@ none_charged (x ∷ L) c k slot q h = by_kept (x.cycle == k) (none_charged L c k
 abbrev FromSender : Cycle → Carry → Type 0
 FromSender e k = has (channels_where (is_sender e k.slot)) k.from ≡ true
 
-from_row : (c : ℕ) (e : Cycle) (slot : Slot) (q : Channel) (targets : List ℕ) → has (channels_where (is_sender e slot)) q ≡ true →
+from_row : (c : ℕ) (e : Cycle) (slot : Slot) (q : Channel) (targets : List ℕ) →
+    has (channels_where (is_sender e slot)) q ≡ true →
     AllByRecursion (FromSender e) (map (λ (r : ℕ). record { cycle = c; slot = slot; from = q; to = r }) targets)
 from_row c e slot q [] there = tt
 from_row c e slot q (r ∷ targets) there = (there, from_row c e slot q targets there)
 
-append_all : {A : Type 0} (P : A → Type 0) (xs ys : List A) → AllByRecursion P xs → AllByRecursion P ys → AllByRecursion P (xs ++ ys)
+append_all : {A : Type 0} (P : A → Type 0) (xs ys : List A) → AllByRecursion P xs → AllByRecursion P ys →
+    AllByRecursion P (xs ++ ys)
 append_all P [] ys h k = k
 append_all P (x ∷ xs) ys h k = (h.0, append_all P xs ys h.1 k)
 
-from_rows : (c : ℕ) (e : Cycle) (slot : Slot) (senders : List ℕ) → ((q : ℕ) → has senders q ≡ true → has (channels_where (is_sender e slot)) q ≡ true) →
-    AllByRecursion (FromSender e) (flat_map (λ q. map (λ (r : ℕ). record { cycle = c; slot = slot; from = q; to = r }) (without (receivers e slot) (q ∷ []))) senders)
+from_rows : (c : ℕ) (e : Cycle) (slot : Slot) (senders : List ℕ) →
+    ((q : ℕ) → has senders q ≡ true → has (channels_where (is_sender e slot)) q ≡ true) →
+    AllByRecursion (FromSender e)
+    (flat_map (λ q. map (λ (r : ℕ). record { cycle = c; slot = slot; from = q; to = r })
+    (without (receivers e slot) (q ∷ []))) senders)
 from_rows c e slot [] h = tt
 from_rows c e slot (q ∷ senders) h =
-    append_all (FromSender e) (map (λ (r : ℕ). record { cycle = c; slot = slot; from = q; to = r }) (without (receivers e slot) (q ∷ [])))
-    (flat_map (λ q. map (λ (r : ℕ). record { cycle = c; slot = slot; from = q; to = r }) (without (receivers e slot) (q ∷ []))) senders)
+    append_all (FromSender e)
+    (map (λ (r : ℕ). record { cycle = c; slot = slot; from = q; to = r }) (without (receivers e slot) (q ∷ [])))
+    (flat_map (λ q. map (λ (r : ℕ). record { cycle = c; slot = slot; from = q; to = r })
+    (without (receivers e slot) (q ∷ []))) senders)
     (from_row c e slot q (without (receivers e slot) (q ∷ [])) (h q (ap (λ b. b || has senders q) (eq-eqb q q refl))))
     (from_rows c e slot senders (λ r k. h r (later (q == r) (has senders r) k)))
   where
@@ -138,33 +152,43 @@ from_rows c e slot (q ∷ senders) h =
 slot_senders : (c : ℕ) (e : Cycle) (slot : Slot) → AllByRecursion (FromSender e) (slot_carries c e slot)
 slot_senders c e slot = if_carried (carries_frames e slot)
   where
-    if_carried : (b : Bool) → AllByRecursion (FromSender e) (cond b (flat_map (λ q. map (λ (r : ℕ). record { cycle = c; slot = slot; from = q; to = r }) (without (receivers e slot) (q ∷ []))) (channels_where (is_sender e slot))) [])
+    if_carried : (b : Bool) →
+        AllByRecursion (FromSender e)
+        (cond b (flat_map (λ q. map (λ (r : ℕ). record { cycle = c; slot = slot; from = q; to = r })
+        (without (receivers e slot) (q ∷ []))) (channels_where (is_sender e slot))) [])
     if_carried true = from_rows c e slot (channels_where (is_sender e slot)) (λ q h. h)
     if_carried false = tt
 
 from_senders : (c : ℕ) (e : Cycle) → AllByRecursion (FromSender e) (cycle_carries c e)
 from_senders c e = All-flat_map (FromSender e) (slot_carries c e) every_slot (slot_senders c e)
 
-module _ (M : MissionValue) (past : Past) (e : Cycle) (slot : Slot) (from to : ℕ) (silent : has (channels_where (is_sender e slot)) from ≡ false) where
-  not_of : (k : Carry) (y : EntryValue) (b : Bool) → is_carry (length past) slot from to y ≡ b → IsDue M past e k y → FromSender e k → b ≡ false
+module _ (M : MissionValue) (past : Past) (e : Cycle) (slot : Slot) (from to : ℕ)
+    (silent : has (channels_where (is_sender e slot)) from ≡ false) where
+  not_of : (k : Carry) (y : EntryValue) (b : Bool) → is_carry (length past) slot from to y ≡ b → IsDue M past e k y →
+      FromSender e k → b ≡ false
   not_of k y true test due sends =
       let f = fields (record { cycle = length past; slot = slot; from = from; to = to }) y test in
       let same : has (channels_where (is_sender e k.slot)) k.from ≡ has (channels_where (is_sender e slot)) from =
-      ap (λ (s : Slot). has (channels_where (is_sender e s)) k.from) (sym due.slot ∙ f.slot) ∙ ap (has (channels_where (is_sender e slot))) (sym due.from ∙ f.from) in
+      ap (λ (s : Slot). has (channels_where (is_sender e s)) k.from) (sym due.slot ∙ f.slot)
+      ∙ ap (has (channels_where (is_sender e slot))) (sym due.from ∙ f.from) in
       absurd (differ (sym silent ∙ sym same ∙ sends))
   not_of k y false test due sends = refl
 
-  none_sent : (carries : List Carry) (now : Log) → AllByRecursion (FromSender e) carries → AllZip (IsDue M past e) carries now → find (is_carry (length past) slot from to) now ≡ None
+  none_sent : (carries : List Carry) (now : Log) → AllByRecursion (FromSender e) carries →
+      AllZip (IsDue M past e) carries now → find (is_carry (length past) slot from to) now ≡ None
   none_sent [] [] all zip = refl
   none_sent [] (y ∷ now) all zip = absurd zip
   none_sent (k ∷ carries) [] all zip = absurd zip
   none_sent (k ∷ carries) (y ∷ now) all zip =
-      ap (λ b. cond b (Some y) (find (is_carry (length past) slot from to) now)) (not_of k y (is_carry (length past) slot from to y) refl zip.0 all.0)
+      ap (λ b. cond b (Some y) (find (is_carry (length past) slot from to) now))
+      (not_of k y (is_carry (length past) slot from to y) refl zip.0 all.0)
       ∙ none_sent carries now all.1 zip.1
 
   nothing_heard : IsDueNow M past e → received_body M e.entries (length past) slot from to ≡ None
   nothing_heard due =
-      ap (λ o. option_and_then (Rattle.guards_model.specs.Network.counting (format_of M) (length past) slot from to) (option_and_then Rattle.guards_model.specs.Fields.frame_in (option_and_then (λ (y : EntryValue). y.delivered) o)))
+      ap (λ o. option_and_then (Rattle.guards_model.specs.Network.counting (format_of M) (length past) slot from to)
+      (option_and_then Rattle.guards_model.specs.Fields.frame_in
+      (option_and_then (λ (y : EntryValue). y.delivered) o)))
       (none_sent (cycle_carries (length past) e) e.entries (from_senders (length past) e) due)
 
 -- ---- small facts
@@ -191,7 +215,8 @@ too_many n h = by (nat_le n 0) refl
     by true e = absurd (omega (arith, leb-true n 0 e, h))
     by false e = refl
 
-none_of : (p : Slot → Bool) (xs : List Slot) → list_all on_bus xs ≡ true → ((s : Slot) → on_bus s ≡ true → p s ≡ false) → find p xs ≡ None
+none_of : (p : Slot → Bool) (xs : List Slot) → list_all on_bus xs ≡ true →
+    ((s : Slot) → on_bus s ≡ true → p s ≡ false) → find p xs ≡ None
 none_of p [] all h = refl
 none_of p (x ∷ xs) all h =
     let parts = both (on_bus x) (list_all on_bus xs) all in
@@ -205,7 +230,8 @@ ends_as : (k : ℕ) (b taken : Bool) → mode_at_end k b taken (cond b up down) 
 ends_as k true taken = refl
 ends_as k false taken = refl
 
-starts_as : (b restarted : Bool) → (b ≡ false → restarted ≡ false) → mode_at_start restarted (cond b up down) ≡ cond b up down
+starts_as : (b restarted : Bool) → (b ≡ false → restarted ≡ false) →
+    mode_at_start restarted (cond b up down) ≡ cond b up down
 starts_as true restarted h = refl
 starts_as false restarted h = ap (λ r. mode_at_start r down) (h refl)
 
@@ -213,7 +239,13 @@ pub below_is : (n q : ℕ) → has (numbers_below n) q ≡ nat_lt q n
 below_is n q = by (cases_lt q n)
   where
     not_there : (b : Bool) → has (numbers_below n) q ≡ b → n ≤ q → b ≡ false
-    not_there true e high = absurd (omega (arith, leb-true (suc q) n (member_passes (λ y. nat_lt y n) (numbers_below n) q (below_under n n (omega arith)) e), high))
+    not_there true e high = absurd
+        (omega (
+          arith,
+          leb-true (suc q) n
+              (member_passes (λ y. nat_lt y n) (numbers_below n) q (below_under n n (omega arith)) e),
+          high,
+        ))
     not_there false e high = refl
 
     by : (q < n) ⊎ (n ≤ q) → has (numbers_below n) q ≡ nat_lt q n
@@ -255,7 +287,8 @@ module _ (M : MissionValue) (L : Log) (mission : IsMission M) (faultless : IsFau
       }
 
   rules_none : AllByRecursion (IsScripted []) L
-  rules_none = subst (λ rules. AllByRecursion (IsScripted rules) L) (no_rules M.script faultless.harmless) faultless.scripted
+  rules_none = subst (λ rules. AllByRecursion (IsScripted rules) L) (no_rules M.script faultless.harmless)
+      faultless.scripted
 
   script_fits : list_all (is_fault M) M.script ≡ true
   script_fits = (both (nat_le (length M.script) 1024) (list_all (is_fault M) M.script) mission.script).1
@@ -274,12 +307,14 @@ module _ (M : MissionValue) (L : Log) (mission : IsMission M) (faultless : IsFau
     start_here q low =
         start-is M L past q low
         ∙ ap (mode_at_start (list_any (is_restart q c) M.script)) (calm.modes q low)
-        ∙ starts_as (there q) (list_any (is_restart q c) M.script) (λ absent. no_restart M M.script q c faultless.harmless script_fits (above absent))
+        ∙ starts_as (there q) (list_any (is_restart q c) M.script)
+        (λ absent. no_restart M M.script q c faultless.harmless script_fits (above absent))
       where
         above : nat_lt q M.rules.channels ≡ false → M.rules.channels ≤ q
         above h = omega (arith, leb-false (suc q) M.rules.channels h)
 
-    pub mode_here : (q : Channel) (low : q < 7) (slot : Slot) → on_bus slot ≡ true → mode_in e q slot ≡ cond (there q) up down
+    pub mode_here : (q : Channel) (low : q < 7) (slot : Slot) → on_bus slot ≡ true →
+        mode_in e q slot ≡ cond (there q) up down
     mode_here q low slot on =
         slot_mode M L past q low slot on
         ∙ ap (λ b. cond b down (start M L past q low)) (no_crash M.script q c slot faultless.harmless)
@@ -288,7 +323,8 @@ module _ (M : MissionValue) (L : Log) (mission : IsMission M) (faultless : IsFau
     undamaged : (q : Channel) → q < 7 → has e.damaged q ≡ false
     undamaged q low =
         damaged-is M L past q low
-        ∙ ap (λ b. is_up (start M L past q low) && (b || was_damaged past q)) (no_damage M.script q c faultless.harmless)
+        ∙ ap (λ b. is_up (start M L past q low) && (b || was_damaged past q))
+        (no_damage M.script q c faultless.harmless)
         ∙ ap (λ b. is_up (start M L past q low) && b) (calm.sound q low)
         ∙ off (is_up (start M L past q low))
 
@@ -303,24 +339,32 @@ module _ (M : MissionValue) (L : Log) (mission : IsMission M) (faultless : IsFau
     calm_in slot on q member =
         let low : q < 7 = member-channel e.active q active_set_is member in
         let here : there q ≡ true = sym (active_here q low) ∙ member in
-        ap (λ m. (not (is_up m) || (has e.damaged q && is_up m)) || list_any (is_charge c slot q) e.entries) (mode_here q low slot on ∙ ap (λ b. cond b up down) here)
+        ap (λ m. (not (is_up m) || (has e.damaged q && is_up m)) || list_any (is_charge c slot q) e.entries)
+        (mode_here q low slot on ∙ ap (λ b. cond b up down) here)
         ∙ ap (λ b. (false || (b && true)) || list_any (is_charge c slot q) e.entries) (undamaged q low)
         ∙ ap (list_any (is_charge c slot q)) (entries_now M L past)
         ∙ none_charged L c c slot q rules_none
 
     pub undisturbed : (slot : Slot) → on_bus slot ≡ true → disturbed_channels c e slot ≡ []
     undisturbed slot on =
-        filter_alike (λ q. (not (is_up (mode_in e q slot)) || is_damaged e q slot) || list_any (is_charge c slot q) e.entries) (λ q. false) e.active (calm_in slot on) ∙ filter_none e.active
+        filter_alike (λ q. (not (is_up (mode_in e q slot)) || is_damaged e q slot)
+        || list_any (is_charge c slot q) e.entries) (λ q. false) e.active (calm_in slot on) ∙ filter_none e.active
 
     many : 3 ≤ length e.active
     many = subst (λ s. 3 ≤ length s) (sym (active-is M L past)) (three_active M L mission n)
 
     goes_on : (slot : Slot) → on_bus slot ≡ true → halts c e slot ≡ false
-    goes_on slot on = ap (λ (D : ChannelSet). nat_le (length e.active) (3 * length D)) (undisturbed slot on) ∙ too_many (length e.active) many
+    goes_on slot on = ap (λ (D : ChannelSet). nat_le (length e.active) (3 * length D)) (undisturbed slot on)
+        ∙ too_many (length e.active) many
 
     no_stop : stop_in c e ≡ None
     no_stop =
-        ap (option_map (λ slot. record { cycle = c; slot = slot; set = disturbed_channels c e slot; active = e.active })) (none_of (halts c e) every_slot refl goes_on)
+        ap (option_map (λ slot. record {
+          cycle = c;
+          slot = slot;
+          set = disturbed_channels c e slot;
+          active = e.active;
+        })) (none_of (halts c e) every_slot refl goes_on)
 
     -- ---- the decision, where the entries of the cycle are the due ones
 
@@ -332,7 +376,8 @@ module _ (M : MissionValue) (L : Log) (mission : IsMission M) (faultless : IsFau
             early = early;
             over = refl;
             due = carried_whole M past e Switch due;
-            few = subst (λ (D : ChannelSet). 3 * length D < length e.active) (sym (undisturbed Switch refl)) (omega (arith, many));
+            few = subst (λ (D : ChannelSet). 3 * length D < length e.active) (sym (undisturbed Switch refl))
+                (omega (arith, many));
           }
 
       pub agreed_on : Agrees M past e
@@ -340,21 +385,28 @@ module _ (M : MissionValue) (L : Log) (mission : IsMission M) (faultless : IsFau
 
       pub unjudged : (q : Channel) → has e.active q ≡ true → has e.judged q ≡ false
       unjudged q member =
-          agreed_on.innocent q (and_true (has e.active q) (not (has (disturbed_channels c e Switch) q)) member (ap (λ s. not (has s q)) (undisturbed Switch refl))) (calm.quiet q)
+          agreed_on.innocent q (and_true (has e.active q) (not (has (disturbed_channels c e Switch) q)) member
+          (ap (λ s. not (has s q)) (undisturbed Switch refl))) (calm.quiet q)
 
-      pub counts_are : e.counts ≡ counts_of M.rules.law M.rules.keep M.rules.decrement e.active e.judged (base_counts M past)
+      pub counts_are : e.counts
+          ≡ counts_of M.rules.law M.rules.keep M.rules.decrement e.active e.judged (base_counts M past)
       unfolding cycle_from decision_of cycle_start_of
       counts_are = refl
 
       pub uncounted : (q : Channel) → place_or e.counts q 0 ≡ 0
       uncounted q =
           ap (λ t. place_or t q 0) counts_are
-          ∙ at_table (λ p. cond (has e.active p) (count_step M.rules.law M.rules.keep M.rules.decrement (has e.judged p) (place_or (base_counts M past) p 0)) 0) q
+          ∙ at_table (λ p. cond (has e.active p)
+          (count_step M.rules.law M.rules.keep M.rules.decrement (has e.judged p)
+          (place_or (base_counts M past) p 0)) 0) q
           (λ p low. by_member p (has e.active p) refl)
         where
-          by_member : (p : Channel) (b : Bool) → has e.active p ≡ b → cond b (count_step M.rules.law M.rules.keep M.rules.decrement (has e.judged p) (place_or (base_counts M past) p 0)) 0 ≡ 0
+          by_member : (p : Channel) (b : Bool) → has e.active p ≡ b →
+              cond b (count_step M.rules.law M.rules.keep M.rules.decrement (has e.judged p)
+              (place_or (base_counts M past) p 0)) 0 ≡ 0
           by_member p true member =
-              ap (λ j. count_step M.rules.law M.rules.keep M.rules.decrement j (place_or (base_counts M past) p 0)) (unjudged p member)
+              ap (λ j. count_step M.rules.law M.rules.keep M.rules.decrement j (place_or (base_counts M past) p 0))
+              (unjudged p member)
               ∙ ap (count_step M.rules.law M.rules.keep M.rules.decrement false) (calm.counts p)
               ∙ zero_step M.rules.law M.rules.keep M.rules.decrement
           by_member p false member = refl
@@ -362,29 +414,37 @@ module _ (M : MissionValue) (L : Log) (mission : IsMission M) (faultless : IsFau
       unasked : (q : Channel) → asks e.active e.fresh e.agreed q ≡ false
       unasked q =
           ap (λ b. b && not (has e.fresh q))
-          (not_many_tell e.active (disturbed_channels c e Switch) (source_word M past) e.agreed (settled_now M L n Switch run) (λ (w : SourceValue). nat_le 1 (place_or w.heard q 0))
+          (not_many_tell e.active (disturbed_channels c e Switch) (source_word M past) e.agreed
+          (settled_now M L n Switch run) (λ (w : SourceValue). nat_le 1 (place_or w.heard q 0))
           (λ j member good. ap (nat_le 1) (calm.codes j q)))
 
       none_asks : (xs : List ℕ) → filter (asks e.active e.fresh e.agreed) xs ≡ []
-      none_asks xs = filter_alike (asks e.active e.fresh e.agreed) (λ q. false) xs (λ q member. unasked q) ∙ filter_none xs
+      none_asks xs = filter_alike (asks e.active e.fresh e.agreed) (λ q. false) xs (λ q member. unasked q)
+          ∙ filter_none xs
 
-      removed_are : e.removed ≡ take (length e.active - 3) (filter (λ q. nat_le M.rules.threshold (place_or e.counts q 0) || asks e.active e.fresh e.agreed q) e.active)
+      removed_are : e.removed ≡ take (length e.active - 3)
+          (filter (λ q. nat_le M.rules.threshold (place_or e.counts q 0) || asks e.active e.fresh e.agreed q) e.active)
       unfolding cycle_from decision_of cycle_start_of agreement_of
       removed_are = refl
 
-      few_counts : (q : Channel) → (nat_le M.rules.threshold (place_or e.counts q 0) || asks e.active e.fresh e.agreed q) ≡ false
+      few_counts : (q : Channel) →
+          (nat_le M.rules.threshold (place_or e.counts q 0) || asks e.active e.fresh e.agreed q) ≡ false
       few_counts q =
           ap (λ k. nat_le M.rules.threshold k || asks e.active e.fresh e.agreed q) (uncounted q)
-          ∙ ap (λ b. b || asks e.active e.fresh e.agreed q) (too_many M.rules.threshold (omega (arith, (ranges M mission).threshold)))
+          ∙ ap (λ b. b || asks e.active e.fresh e.agreed q)
+          (too_many M.rules.threshold (omega (arith, (ranges M mission).threshold)))
           ∙ unasked q
 
       pub unremoved : e.removed ≡ []
       unremoved =
           removed_are
-          ∙ ap (take (length e.active - 3)) (filter_alike (λ q. nat_le M.rules.threshold (place_or e.counts q 0) || asks e.active e.fresh e.agreed q) (λ q. false) e.active (λ q member. few_counts q) ∙ filter_none e.active)
+          ∙ ap (take (length e.active - 3))
+          (filter_alike (λ q. nat_le M.rules.threshold (place_or e.counts q 0) || asks e.active e.fresh e.agreed q)
+          (λ q. false) e.active (λ q member. few_counts q) ∙ filter_none e.active)
           ∙ take_nil (length e.active - 3)
 
-      transfer_is : e.transfer ≡ transfer_after M.rules.channels M.rules.returning e.active e.fresh e.agreed c (running_transfer past)
+      transfer_is : e.transfer ≡ transfer_after M.rules.channels M.rules.returning e.active e.fresh e.agreed c
+          (running_transfer past)
       unfolding cycle_from decision_of cycle_start_of agreement_of
       transfer_is = refl
 
@@ -392,7 +452,8 @@ module _ (M : MissionValue) (L : Log) (mission : IsMission M) (faultless : IsFau
       untransferred =
           transfer_is
           ∙ ap (transfer_after M.rules.channels M.rules.returning e.active e.fresh e.agreed c) calm.running
-          ∙ ap (λ xs. transfer_to (take M.rules.returning xs) c) (none_asks (without (numbers_below M.rules.channels) e.active))
+          ∙ ap (λ xs. transfer_to (take M.rules.returning xs) c)
+          (none_asks (without (numbers_below M.rules.channels) e.active))
           ∙ ap (λ xs. transfer_to xs c) (take_nil M.rules.returning)
 
       joined_are : e.joined ≡ joined_of M.rules.last e.transfer e.remaining
@@ -418,17 +479,21 @@ module _ (M : MissionValue) (L : Log) (mission : IsMission M) (faultless : IsFau
           or_false false = refl
 
       silent : (q : Channel) → q < 7 → has (channels_where (is_sender e Request)) q ≡ false
-      silent q low = has-channels_where (is_sender e Request) q low ∙ ap is_joining (mode_here q low Request refl) ∙ not_joining (there q)
+      silent q low = has-channels_where (is_sender e Request) q low ∙ ap is_joining (mode_here q low Request refl)
+          ∙ not_joining (there q)
 
       codes_past : (j : Channel) → 7 ≤ j → place_or e.request_codes j [] ≡ []
       unfolding cycle_from work_of
-      codes_past j high = past_table (λ p. by_channel (λ q. request_code e.running q (have_of (received_body M e.entries c Request q p)))) j [] high
+      codes_past j high = past_table
+          (λ p. by_channel (λ q. request_code e.running q (have_of (received_body M e.entries c Request q p)))) j []
+          high
 
       codes_by : (j q : Channel) → (j < 7) ⊎ (7 ≤ j) → place_or (place_or e.request_codes j []) q 0 ≡ 0
       codes_by j q (inl low) =
           ap (λ t. place_or t q 0) (heard-is M L past j low)
           ∙ at_table (λ p. request_code e.running p (have_of (received_body M e.entries c Request p j))) q
-          (λ p small. ap (λ o. request_code e.running p (have_of o)) (nothing_heard M past e Request p j (silent p small) due))
+          (λ p small. ap (λ o. request_code e.running p (have_of o))
+          (nothing_heard M past e Request p j (silent p small) due))
       codes_by j q (inr high) = ap (λ t. place_or t q 0) (codes_past j high)
 
       next_calm : Calm (e ∷ past)
@@ -441,9 +506,14 @@ module _ (M : MissionValue) (L : Log) (mission : IsMission M) (faultless : IsFau
                 ∙ ends_as M.return_after (there q) (is_whole q (e ∷ past));
             sound = undamaged;
             running = ap (λ j. Rattle.guards_model.specs.Decisions.if_empty j e.transfer) unjoined ∙ untransferred;
-            counts = λ q. at_table (λ p. cond (has (active_set M (e ∷ past)) p && not (has e.joined p)) (place_or e.counts p 0) 0) q (λ p low. either_zero (has (active_set M (e ∷ past)) p && not (has e.joined p)) (place_or e.counts p 0) (uncounted p));
-            codes = λ j q. ap (λ s. place_or (cond (has s j) (by_channel (λ p. 0)) (place_or e.request_codes j [])) q 0) unjoined ∙ codes_by j q (cases_lt j 7);
-            quiet = λ q. ap (λ s. not (has e.active q) || (has e.active q && not (has s q))) (undisturbed Switch refl) ∙ either_way (has e.active q);
+            counts = λ q. at_table (λ p.
+                cond (has (active_set M (e ∷ past)) p && not (has e.joined p)) (place_or e.counts p 0) 0) q
+                (λ p low. either_zero (has (active_set M (e ∷ past)) p && not (has e.joined p)) (place_or e.counts p 0)
+                (uncounted p));
+            codes = λ j q. ap (λ s. place_or (cond (has s j) (by_channel (λ p. 0)) (place_or e.request_codes j [])) q 0)
+                unjoined ∙ codes_by j q (cases_lt j 7);
+            quiet = λ q. ap (λ s. not (has e.active q) || (has e.active q && not (has s q))) (undisturbed Switch refl)
+                ∙ either_way (has e.active q);
           }
         where
           either_zero : (b : Bool) (k : ℕ) → k ≡ 0 → cond b k 0 ≡ 0
@@ -465,12 +535,15 @@ module _ (M : MissionValue) (L : Log) (mission : IsMission M) (faultless : IsFau
   none_of_two a b h k = ap (λ o. first_of_two o b) h ∙ k
 
   pub calm_run : (n : ℕ) → n ≤ M.cycles → EachCycle (IsDueNow M) (cycles_before M L n) → CalmRun n
-  calm_run zero early due = record { calm = first_calm; unstopped = refl; cycles = λ m low. absurd (omega (arith, low)) }
+  calm_run zero early due =
+      record { calm = first_calm; unstopped = refl; cycles = λ m low. absurd (omega (arith, low)) }
   calm_run (suc n) early due =
       let before = calm_run n (omega arith) due.1 in
       record {
         calm = next_calm n before.calm due.0 (omega arith) before.cycles;
-        unstopped = none_of_two (stop_of (cycles_before M L n)) (stop_in (length (cycles_before M L n)) (next_cycle M L (cycles_before M L n))) before.unstopped (no_stop n before.calm);
+        unstopped = none_of_two (stop_of (cycles_before M L n))
+            (stop_in (length (cycles_before M L n)) (next_cycle M L (cycles_before M L n))) before.unstopped
+            (no_stop n before.calm);
         cycles = λ m low. elim (cases_eq n m) [
           | inl same ↦ subst (λ k. IsCycle M L k) same (run n before.calm due.0 (omega arith) before.cycles)
           | inr other ↦ before.cycles m (omega (arith, low, other))
@@ -478,16 +551,28 @@ module _ (M : MissionValue) (L : Log) (mission : IsMission M) (faultless : IsFau
       }
 
 pub each_is_due : (M : MissionValue) (L : Log) (n : ℕ) → HasDue M L n → EachCycle (IsDueNow M) (cycles_before M L n)
-each_is_due M L n has_due = each_due M L n has_due.before has_due.later has_due.entries (subst (λ k. Rattle.guards_model.specs.Network.AreFrom k has_due.later) (sym (length-cycles_before M L n)) has_due.after) has_due.due
+each_is_due M L n has_due =
+    each_due M L n has_due.before has_due.later has_due.entries
+    (subst (λ k. Rattle.guards_model.specs.Network.AreFrom k has_due.later) (sym (length-cycles_before M L n))
+    has_due.after) has_due.due
 
 -- a run without faults goes on
-pub faultless_run : (M : MissionValue) (L : Log) (n : ℕ) → IsMission M → n ≤ M.cycles → IsFaultless M L → HasDue M L n → HasRun M L n
+pub faultless_run : (M : MissionValue) (L : Log) (n : ℕ) → IsMission M → n ≤ M.cycles → IsFaultless M L → HasDue M L n →
+    HasRun M L n
 faultless_run M L n mission early faultless has_due =
     let r = calm_run M L mission faultless n early (each_is_due M L n has_due) in
-    record { before = has_due.before; later = has_due.later; entries = has_due.entries; after = has_due.after; due = has_due.due; unstopped = r.unstopped }
+    record {
+      before = has_due.before;
+      later = has_due.later;
+      entries = has_due.entries;
+      after = has_due.after;
+      due = has_due.due;
+      unstopped = r.unstopped;
+    }
 
 -- and no slot of its next cycle stops it
-pub faultless_slots : (M : MissionValue) (L : Log) (n : ℕ) (slot : Slot) → IsMission M → n ≤ M.cycles → IsFaultless M L → HasDue M L n → on_bus slot ≡ true →
+pub faultless_slots : (M : MissionValue) (L : Log) (n : ℕ) (slot : Slot) → IsMission M → n ≤ M.cycles →
+    IsFaultless M L → HasDue M L n → on_bus slot ≡ true →
     halts (length (cycles_before M L n)) (next_cycle M L (cycles_before M L n)) slot ≡ false
 faultless_slots M L n slot mission early faultless has_due on =
     let r = calm_run M L mission faultless n early (each_is_due M L n has_due) in

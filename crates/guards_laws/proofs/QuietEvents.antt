@@ -16,11 +16,13 @@ use Rattle.guards_runs.specs.Events.{Event, deliver, crashed, restarted, waited,
 
 -- ---- lists
 
-fused : {A B C : Type 0} (f : B → Option C) (g : A → Option B) (xs : List A) → filter_map f (filter_map g xs) ≡ filter_map (λ x. option_and_then f (g x)) xs
+fused : {A B C : Type 0} (f : B → Option C) (g : A → Option B) (xs : List A) →
+    filter_map f (filter_map g xs) ≡ filter_map (λ x. option_and_then f (g x)) xs
 fused f g [] = refl
 fused f g (x ∷ xs) = step (g x) ∙ ap (cons_option (option_and_then f (g x))) (fused f g xs)
   where
-    step : (o : Option _) → filter_map f (cons_option o (filter_map g xs)) ≡ cons_option (option_and_then f o) (filter_map f (filter_map g xs))
+    step : (o : Option _) → filter_map f (cons_option o (filter_map g xs))
+        ≡ cons_option (option_and_then f o) (filter_map f (filter_map g xs))
     step None = refl
     step (Some y) = refl
 
@@ -28,13 +30,16 @@ none_kept : {A B : Type 0} (f : A → Option B) (xs : List A) → ((x : A) → f
 none_kept f [] h = refl
 none_kept f (x ∷ xs) h = ap (λ o. cons_option o (filter_map f xs)) (h x) ∙ none_kept f xs h
 
-pub none_mapped : {A B C : Type 0} (f : B → Option C) (g : A → B) (xs : List A) → ((x : A) → f (g x) ≡ None) → filter_map f (map g xs) ≡ []
+pub none_mapped : {A B C : Type 0} (f : B → Option C) (g : A → B) (xs : List A) → ((x : A) → f (g x) ≡ None) →
+    filter_map f (map g xs) ≡ []
 none_mapped f g [] h = refl
 none_mapped f g (x ∷ xs) h = ap (λ o. cons_option o (filter_map f (map g xs))) (h x) ∙ none_mapped f g xs h
 
-pub through_flat : {A B C : Type 0} (f : B → Option C) (g : A → List B) (xs : List A) → filter_map f (flat_map g xs) ≡ flat_map (λ x. filter_map f (g x)) xs
+pub through_flat : {A B C : Type 0} (f : B → Option C) (g : A → List B) (xs : List A) →
+    filter_map f (flat_map g xs) ≡ flat_map (λ x. filter_map f (g x)) xs
 through_flat f g [] = refl
-through_flat f g (x ∷ xs) = filter_map-append f (g x) (flat_map g xs) ∙ ap (λ l. filter_map f (g x) ++ l) (through_flat f g xs)
+through_flat f g (x ∷ xs) =
+    filter_map-append f (g x) (flat_map g xs) ∙ ap (λ l. filter_map f (g x) ++ l) (through_flat f g xs)
 
 pub flat_alike : {A B : Type 0} (f g : A → List B) (xs : List A) → ((x : A) → f x ≡ g x) → flat_map f xs ≡ flat_map g xs
 flat_alike f g [] h = refl
@@ -63,7 +68,8 @@ module _ {A : Type 0} (f : Event → Option A) (deaf : IsDeaf f) where
   no_restart c (bus rule) = refl
 
   no_damage : (c : ℕ) (x : FaultValue) → option_and_then f (damage_event c x) ≡ None
-  no_damage c (damage q d block word value) = if_some (d == c) (damaged q block word value) (deaf.damages q block word value)
+  no_damage c (damage q d block word value) =
+      if_some (d == c) (damaged q block word value) (deaf.damages q block word value)
   no_damage c (crash q d at) = refl
   no_damage c (restart q d) = refl
   no_damage c (bus rule) = refl
@@ -74,14 +80,18 @@ module _ {A : Type 0} (f : Event → Option A) (deaf : IsDeaf f) where
   no_crash c slot (damage q d block word value) = refl
   no_crash c slot (bus rule) = refl
 
-  silent : {B : Type 0} (g : B → Option Event) (xs : List B) → ((x : B) → option_and_then f (g x) ≡ None) → filter_map f (filter_map g xs) ≡ []
+  silent : {B : Type 0} (g : B → Option Event) (xs : List B) → ((x : B) → option_and_then f (g x) ≡ None) →
+      filter_map f (filter_map g xs) ≡ []
   silent g xs h = fused f g xs ∙ none_kept (λ x. option_and_then f (g x)) xs h
 
   -- what is seen of a slot: its deliveries and its steps
   abbrev pub seen_of_slot : Steps → Cycle → Slot → List A
-  seen_of_slot steps e slot = filter_map f (map deliver (filter (λ (entry : EntryValue). same_slot entry.slot slot) e.entries)) ++ filter_map f (round_events steps e slot)
+  seen_of_slot steps e slot =
+      filter_map f (map deliver (filter (λ (entry : EntryValue). same_slot entry.slot slot) e.entries))
+      ++ filter_map f (round_events steps e slot)
 
-  slot_seen : (M : MissionValue) (steps : Steps) (c : ℕ) (e : Cycle) (slot : Slot) → filter_map f (slot_events M steps c e slot) ≡ seen_of_slot steps e slot
+  slot_seen : (M : MissionValue) (steps : Steps) (c : ℕ) (e : Cycle) (slot : Slot) →
+      filter_map f (slot_events M steps c e slot) ≡ seen_of_slot steps e slot
   slot_seen M steps c e slot =
       let crashes = filter_map (crash_event c slot) M.script in
       let carried = map deliver (filter (λ (entry : EntryValue). same_slot entry.slot slot) e.entries) in
@@ -91,10 +101,12 @@ module _ {A : Type 0} (f : Event → Option A) (deaf : IsDeaf f) where
       ∙ append-nil (filter_map f ((crashes ++ carried) ++ made))
       ∙ filter_map-append f (crashes ++ carried) made
       ∙ ap (λ l. l ++ filter_map f made)
-      (filter_map-append f crashes carried ∙ ap (λ l. l ++ filter_map f carried) (silent (crash_event c slot) M.script (no_crash c slot)))
+      (filter_map-append f crashes carried
+      ∙ ap (λ l. l ++ filter_map f carried) (silent (crash_event c slot) M.script (no_crash c slot)))
 
   -- of a cycle: what is seen of its slots
-  pub cycle_seen : (M : MissionValue) (steps : Steps) (past : Past) (e : Cycle) → filter_map f (cycle_events M steps past e) ≡ flat_map (seen_of_slot steps e) every_slot
+  pub cycle_seen : (M : MissionValue) (steps : Steps) (past : Past) (e : Cycle) →
+      filter_map f (cycle_events M steps past e) ≡ flat_map (seen_of_slot steps e) every_slot
   cycle_seen M steps past e =
       let c = this_cycle past in
       let restarts = filter_map (restart_event c) M.script in
@@ -116,4 +128,5 @@ module _ {A : Type 0} (f : Event → Option A) (deaf : IsDeaf f) where
       filter_map-append f (((restarts ++ waits) ++ damages) ++ senses) slots
       ∙ ap (λ l. l ++ filter_map f slots) before_slots
       ∙ through_flat f (slot_events M steps c e) every_slot
-      ∙ flat_alike (λ slot. filter_map f (slot_events M steps c e slot)) (seen_of_slot steps e) every_slot (slot_seen M steps c e)
+      ∙ flat_alike (λ slot. filter_map f (slot_events M steps c e slot)) (seen_of_slot steps e) every_slot
+      (slot_seen M steps c e)

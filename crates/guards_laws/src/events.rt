@@ -1,5 +1,6 @@
-//! The events of a run say all of its log and of its rounds: what they deliver is the log, and each channel's steps in a cycle
-//! are those of its history. So what holds for every list of events holds for every run. The definitions stand in `specs/`.
+//! The events of a run say all of its log and of its rounds: what they deliver is the log, and each channel's steps in
+//! a cycle are those of its history. So what holds for every list of events holds for every run. The definitions stand
+//! in `specs/`.
 ghost use Rattle.std.specs.Prelude.{◌≡◌, ℕ, [], true, false};
 ghost use Rattle.guards_model.specs.declared.Slot.TheVariants.{Tasks};
 ghost use Rattle.guards_model.specs.Channels.{Channel, has};
@@ -18,8 +19,8 @@ pub fn events_deliver_the_log()
         delivered (events M histories (cycles_before M L n)) ≡ run.before }
 {}
 
-/// The steps that a cycle's events have of a channel are those of its history where it works in the cycle, in their order, and
-/// else there are none.
+/// The steps that a cycle's events have of a channel are those of its history where it works in the cycle, in their
+/// order, and else there are none.
 pub fn events_follow_the_histories()
     ensures works { (M : MissionValue) (L : Log) (n : ℕ) (steps : Steps) (p : Channel) → IsMission M →
         has (channels_running_in Tasks (cycle_at M L n)) p ≡ true →

@@ -37,10 +37,13 @@ filter_none [] = refl
 filter_none (x ∷ xs) = filter_none xs
 
 -- a kept block passes the test
-pub kept_test : (test : ℕ → Bool) (blocks b : ℕ) → has (numbers_below blocks) b ≡ true → has (filter test (numbers_below blocks)) b ≡ test b
-kept_test test blocks b h = has-filter test (numbers_below blocks) b ∙ and_with (test b) (has (numbers_below blocks) b) h
+pub kept_test : (test : ℕ → Bool) (blocks b : ℕ) → has (numbers_below blocks) b ≡ true →
+    has (filter test (numbers_below blocks)) b ≡ test b
+kept_test test blocks b h =
+    has-filter test (numbers_below blocks) b ∙ and_with (test b) (has (numbers_below blocks) b) h
 
-pub has-blocks_in : (blocks : ℕ) (list : List ℕ) (b : ℕ) → has (numbers_below blocks) b ≡ true → has (blocks_in blocks list) b ≡ has list b
+pub has-blocks_in : (blocks : ℕ) (list : List ℕ) (b : ℕ) → has (numbers_below blocks) b ≡ true →
+    has (blocks_in blocks list) b ≡ has list b
 has-blocks_in blocks list b h = kept_test (has list) blocks b h
 
 -- ---- blocks in cyclic order are blocks
@@ -90,30 +93,47 @@ module _ (blocks : ℕ) (cycles : List TransferCycle) (written : List ℕ) where
   unfolding tags_of plan_by_tags
   tags_plan sweep =
       ap (take sweep)
-      (filter_alike (has (remaining_blocks blocks cycles)) (remains cycles) (cyclic_from blocks (sweep_cursor blocks cycles))
+      (filter_alike (has (remaining_blocks blocks cycles)) (remains cycles)
+      (cyclic_from blocks (sweep_cursor blocks cycles))
       (λ b h. kept_test (remains cycles) blocks b (in_cycle blocks (sweep_cursor blocks cycles) b h)))
 
-  pub tags_write : (block : ℕ) → tags_written block (tags_of blocks cycles written) ≡ tags_of blocks cycles (block ∷ written)
+  pub tags_write : (block : ℕ) →
+      tags_written block (tags_of blocks cycles written) ≡ tags_of blocks cycles (block ∷ written)
   unfolding tags_of tags_written
   tags_write block =
-      ap (λ list. record { blocks = blocks; remaining = remaining_blocks blocks cycles; cursor = sweep_cursor blocks cycles; written = list })
+      ap (λ list. record {
+        blocks = blocks;
+        remaining = remaining_blocks blocks cycles;
+        cursor = sweep_cursor blocks cycles;
+        written = list;
+      })
       (filter_alike (has (block ∷ blocks_in blocks written)) (has (block ∷ written)) (numbers_below blocks)
       (λ b h. ap (λ t. (block == b) || t) (has-blocks_in blocks written b h)))
 
   pub tags_close : (planned : List ℕ) →
-      tags_closed planned (tags_of blocks cycles written) ≡ tags_of blocks (record { planned = planned; written = written } ∷ cycles) []
+      tags_closed planned (tags_of blocks cycles written)
+      ≡ tags_of blocks (record { planned = planned; written = written } ∷ cycles) []
   unfolding tags_of tags_closed
   tags_close planned =
       let e : TransferCycle = record { planned = planned; written = written } in
       let kept : (b : ℕ) → has (numbers_below blocks) b ≡ true →
-      (has (blocks_in blocks written) b || (not (has planned b) && has (remaining_blocks blocks cycles) b)) ≡ remains (e ∷ cycles) b
-      = λ b h. ap (λ t. t || (not (has planned b) && has (remaining_blocks blocks cycles) b)) (has-blocks_in blocks written b h)
+      (has (blocks_in blocks written) b || (not (has planned b) && has (remaining_blocks blocks cycles) b))
+      ≡ remains (e ∷ cycles) b
+      = λ b h. ap (λ t. t || (not (has planned b) && has (remaining_blocks blocks cycles) b))
+      (has-blocks_in blocks written b h)
       ∙ ap (λ t. has written b || (not (has planned b) && t)) (kept_test (remains cycles) blocks b h)
       ∙ sym (remains-step e cycles b)
       in
       ap (λ list. record { blocks = blocks; remaining = list; cursor = sweep_cursor blocks (e ∷ cycles); written = [] })
-      (filter_alike (λ b. has (blocks_in blocks written) b || (not (has planned b) && has (remaining_blocks blocks cycles) b)) (remains (e ∷ cycles)) (numbers_below blocks) kept)
-      ∙ ap (λ list. record { blocks = blocks; remaining = remaining_blocks blocks (e ∷ cycles); cursor = sweep_cursor blocks (e ∷ cycles); written = list })
+      (filter_alike (λ b. has (blocks_in blocks written) b
+      || (not (has planned b) && has (remaining_blocks blocks cycles) b)) (remains (e ∷ cycles))
+      (numbers_below blocks) kept)
+      ∙ ap (λ list. record {
+        blocks = blocks;
+        remaining = remaining_blocks blocks (e ∷ cycles);
+        cursor = sweep_cursor blocks (e ∷ cycles);
+        written = list;
+      })
       (sym (filter_none (numbers_below blocks)))
 
 -- ---- tags that stand for a list of cycles
@@ -131,15 +151,22 @@ module _ (t : TagsValue) (cycles : List TransferCycle) (written : List ℕ) (sta
   pub stand_written : (block : ℕ) → tags_written block t ≡ tags_of t.blocks cycles (block ∷ written)
   stand_written block = ap (tags_written block) stands ∙ tags_write t.blocks cycles written block
 
-  pub stand_closed : (planned : List ℕ) → tags_closed planned t ≡ tags_of t.blocks (record { planned = planned; written = written } ∷ cycles) []
+  pub stand_closed : (planned : List ℕ) →
+      tags_closed planned t ≡ tags_of t.blocks (record { planned = planned; written = written } ∷ cycles) []
   stand_closed planned = ap (tags_closed planned) stands ∙ tags_close t.blocks cycles written planned
 
 -- writes to all blocks of a list, after none
-pub stand_noted : (t : TagsValue) (cycles : List TransferCycle) (list : List ℕ) → StandFor t cycles [] → tags_noted list t ≡ tags_of t.blocks cycles list
+pub stand_noted : (t : TagsValue) (cycles : List TransferCycle) (list : List ℕ) → StandFor t cycles [] →
+    tags_noted list t ≡ tags_of t.blocks cycles list
 unfolding tags_of tags_noted
 stand_noted t cycles list stands =
     let with_written : List ℕ → TagsValue
-    = λ ws. record { blocks = t.blocks; remaining = remaining_blocks t.blocks cycles; cursor = sweep_cursor t.blocks cycles; written = ws } in
+    = λ ws. record {
+      blocks = t.blocks;
+      remaining = remaining_blocks t.blocks cycles;
+      cursor = sweep_cursor t.blocks cycles;
+      written = ws;
+    } in
     ap (tags_noted list) stands
     ∙ ap with_written
     (filter_alike (λ b. has list b || has (blocks_in t.blocks []) b) (has list) (numbers_below t.blocks)

@@ -54,8 +54,8 @@ output_frame version c q words = record { version = version; sender = q; cycle =
 abbrev pub of_count : ℕ → List ℤ → Option (List ℤ)
 of_count outputs words = if length words == outputs then Some words else None
 
--- the words of a frame, where it is of this version, the true sender's and of the running cycle, and a vote frame with so
--- many words
+-- the words of a frame, where it is of this version, the true sender's and of the running cycle, and a vote frame with
+-- so many words
 abbrev pub ballot_counting : ℕ → ℕ → ℕ → Channel → FrameValue → Option (List ℤ)
 ballot_counting version outputs c from f =
     if f.version == version && (f.sender == from && f.cycle == c)

@@ -7,7 +7,9 @@ use Rattle.guards_model.specs.Texts.{TextValue, Part, line_end, vote_text}
 -- ---- the text of `check`
 
 abbrev pub sizes_line : ℕ → ℕ → ℕ → TextValue
-sizes_line channels cycles blocks = codes "check channels " ++ decimal channels ++ codes " cycles " ++ decimal cycles ++ codes " blocks " ++ decimal blocks ++ line_end
+sizes_line channels cycles blocks =
+    codes "check channels " ++ decimal channels ++ codes " cycles " ++ decimal cycles ++ codes " blocks "
+    ++ decimal blocks ++ line_end
 
 abbrev pub rounds_line : ℕ → TextValue
 rounds_line rounds = codes "rounds " ++ decimal rounds ++ line_end
@@ -31,7 +33,8 @@ check_head_part channels cycles blocks rounds writes bound =
 -- the line of an expression: its row, its task, the block and the word that it is stored in, and its text
 abbrev pub expression_line : ℕ → TextValue → ℕ → ℕ → TextValue → TextValue
 expression_line row task block word text =
-    codes "row " ++ decimal row ++ codes " task " ++ task ++ codes " b" ++ decimal block ++ codes "." ++ decimal word ++ codes " = " ++ text ++ line_end
+    codes "row " ++ decimal row ++ codes " task " ++ task ++ codes " b" ++ decimal block ++ codes "." ++ decimal word
+    ++ codes " = " ++ text ++ line_end
 
 -- ---- the summary of a demo
 

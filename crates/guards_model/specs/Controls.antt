@@ -31,7 +31,12 @@ pub record ClosedValue : Type 0 where
 
 -- all channels of the mission are active, and nothing is held against them
 unfoldable pub first_control : RulesValue → ControlValue
-first_control rules = record { active = numbers_below rules.channels; fresh = []; counts = by_channel (λ q. 0); sweeping = None }
+first_control rules = record {
+  active = numbers_below rules.channels;
+  fresh = [];
+  counts = by_channel (λ q. 0);
+  sweeping = None;
+}
 
 -- ---- the decision
 
@@ -57,7 +62,8 @@ unfoldable pub decided_by : RulesValue → ℕ → ControlValue → Agreed → D
 decided_by rules c k agreed =
     let judged : ChannelSet = judged_of k.active agreed in
     let counts : List ℕ = counts_of rules.law rules.keep rules.decrement k.active judged k.counts in
-    let transfer : Option TransferValue = transfer_after rules.channels rules.returning k.active k.fresh agreed c (transfer_in k.sweeping) in
+    let transfer : Option TransferValue =
+    transfer_after rules.channels rules.returning k.active k.fresh agreed c (transfer_in k.sweeping) in
     record {
       judged = judged;
       counts = counts;
@@ -69,7 +75,12 @@ decided_by rules c k agreed =
 -- the control with the counts and the transfer that were decided
 unfoldable pub control_decided : RulesValue → ℕ → ControlValue → DecisionValue → ControlValue
 control_decided rules c k d =
-    record { active = k.active; fresh = k.fresh; counts = d.counts; sweeping = sweeping_for rules.blocks c k.sweeping d.transfer }
+    record {
+      active = k.active;
+      fresh = k.fresh;
+      counts = d.counts;
+      sweeping = sweeping_for rules.blocks c k.sweeping d.transfer;
+    }
 
 -- ---- the end of a cycle
 

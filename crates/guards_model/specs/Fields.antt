@@ -89,12 +89,14 @@ law_at (suc (suc (suc b)) ∷ rest) = None
 
 -- seven codes from 0 to 2
 unfoldable pub codes_at : Reader (List ℕ)
-codes_at bytes = checked (list_all (λ code. nat_le code 2)) (mapped unpacked_codes (checked (λ n. nat_lt n (4 ^ 7)) (number_at w16))) bytes
+codes_at bytes = checked (list_all (λ code. nat_le code 2))
+    (mapped unpacked_codes (checked (λ n. nat_lt n (4 ^ 7)) (number_at w16))) bytes
 
 -- a source word
 unfoldable pub source_word_at : Reader SourceValue
 source_word_at bytes =
-    mapped (λ x. record { words = x.0; accuse = x.1.0; heard = x.1.1 }) (pair (counted_by (between 1 4) word_at) (pair set_at codes_at)) bytes
+    mapped (λ x. record { words = x.0; accuse = x.1.0; heard = x.1.1 })
+    (pair (counted_by (between 1 4) word_at) (pair set_at codes_at)) bytes
 
 -- so many labels
 unfoldable pub labels_at : ℕ → Reader (List Channel)
@@ -106,7 +108,8 @@ path_at sender round bytes = checked (path_in_range sender) (labels_at (round - 
 
 -- an item
 unfoldable pub item_at : Channel → ℕ → Reader ItemValue
-item_at sender round bytes = mapped (λ x. record { path = x.0; word = x.1 }) (pair (path_at sender round) (optional_at source_word_at)) bytes
+item_at sender round bytes =
+    mapped (λ x. record { path = x.0; word = x.1 }) (pair (path_at sender round) (optional_at source_word_at)) bytes
 
 -- the copy of a block
 unfoldable pub copy_at : Reader CopyValue
@@ -138,7 +141,9 @@ request_at bytes = mapped request_body (optional_at (number_at w32)) bytes
 
 -- the body of an exchange
 unfoldable pub exchange_at : Channel → Reader BodyValue
-exchange_at sender bytes = checked (between 1 3) byte_at bytes >>= λ round. items_at sender round.0 round.1 >>= λ items. Some (exchange_body (record { round = round.0; items = items.0 }), items.1)
+exchange_at sender bytes =
+    checked (between 1 3) byte_at bytes >>= λ round. items_at sender round.0 round.1 >>= λ items.
+    Some (exchange_body (record { round = round.0; items = items.0 }), items.1)
 
 -- the body of a vote
 unfoldable pub vote_at : Reader BodyValue
@@ -150,7 +155,8 @@ swept_copies_at bytes = checked (λ cs. is_distinct (numbers_of cs)) (counted_by
 
 -- the body of a sweep frame
 unfoldable pub sweep_at : Reader BodyValue
-sweep_at bytes = mapped (λ x. sweep_body (record { target = x.0; start = x.1.0; copies = x.1.1 })) (pair channel_at (pair (number_at w32) swept_copies_at)) bytes
+sweep_at bytes = mapped (λ x. sweep_body (record { target = x.0; start = x.1.0; copies = x.1.1 }))
+    (pair channel_at (pair (number_at w32) swept_copies_at)) bytes
 
 -- the copies of a final frame, whose blocks ascend
 unfoldable pub final_copies_at : Reader (List CopyValue)
@@ -159,7 +165,8 @@ final_copies_at bytes = checked (λ cs. each_next nat_lt (numbers_of cs)) (count
 -- the body of a final frame
 unfoldable pub final_at : ℕ → Reader BodyValue
 final_at version bytes =
-    mapped (λ x. final_body (record { target = x.0; start = x.1.0; copies = x.1.1.0; control = x.1.1.1 })) (pair channel_at (pair (number_at w32) (pair final_copies_at (control_at version)))) bytes
+    mapped (λ x. final_body (record { target = x.0; start = x.1.0; copies = x.1.1.0; control = x.1.1.1 }))
+    (pair channel_at (pair (number_at w32) (pair final_copies_at (control_at version)))) bytes
 
 -- the body of a switch frame
 unfoldable pub switch_at : Reader BodyValue

@@ -1,4 +1,5 @@
--- What of a record a report shows: a record has places for the greatest mission, and a mission has so many channels, words and outputs.
+-- What of a record a report shows: a record has places for the greatest mission, and a mission has so many channels,
+-- words and outputs.
 use Rattle.std.specs.Prelude.{ℕ, zero, suc, List, map, take, Option, Some, None}
 use Rattle.guards_model.specs.declared.Actor.{Actor}
 use Rattle.guards_model.specs.declared.Actor.TheVariants.{Task, Sweep}
@@ -22,7 +23,8 @@ transfer_of_pair None = None
 transfer_of_pair (Some t) = Some (record { targets = t.0; start = t.1 })
 
 abbrev pub shown_line : ℕ → ℕ → ℕ → LineValue → LineValue
-shown_line channels width outputs l = record l { inputs = take width l.inputs; votes = take outputs l.votes; counts = take channels l.counts }
+shown_line channels width outputs l =
+    record l { inputs = take width l.inputs; votes = take outputs l.votes; counts = take channels l.counts }
 
 abbrev pub shown : ℕ → ℕ → ℕ → RecordValue → RecordValue
 shown channels width outputs r = record r { lines = map (shown_line channels width outputs) r.lines }

@@ -20,10 +20,13 @@ RuleOfEntry = Bool × ScriptFaultValue
 
 -- the rules of the entry at a place, in their order, where there are so many channels, cycles and blocks
 abbrev pub rules_of_entry : ℕ → ℕ → ℕ → ℕ → FaultValue → List RuleOfEntry
-rules_of_entry channels cycles blocks at (crash q c slot) = (nat_lt c cycles, wrong_cycle at) ∷ (nat_lt q channels, wrong_channel at) ∷ []
-rules_of_entry channels cycles blocks at (restart q c) = (nat_lt c cycles, wrong_cycle at) ∷ (nat_lt q channels, wrong_channel at) ∷ []
+rules_of_entry channels cycles blocks at (crash q c slot) =
+    (nat_lt c cycles, wrong_cycle at) ∷ (nat_lt q channels, wrong_channel at) ∷ []
+rules_of_entry channels cycles blocks at (restart q c) =
+    (nat_lt c cycles, wrong_cycle at) ∷ (nat_lt q channels, wrong_channel at) ∷ []
 rules_of_entry channels cycles blocks at (damage q c block word value) =
-    (nat_lt c cycles, wrong_cycle at) ∷ (nat_lt q channels, wrong_channel at) ∷ (nat_lt block blocks, wrong_block at) ∷ (nat_lt word 8, wrong_word at) ∷ []
+    (nat_lt c cycles, wrong_cycle at) ∷ (nat_lt q channels, wrong_channel at) ∷ (nat_lt block blocks, wrong_block at)
+    ∷ (nat_lt word 8, wrong_word at) ∷ []
 rules_of_entry channels cycles blocks at (bus rule) =
     (nat_lt rule.cycle cycles, wrong_cycle at) ∷ (nat_lt rule.from channels, wrong_channel at)
     ∷ (is_receiver channels rule.from rule.to, wrong_receiver at) ∷ (is_act rule.act, long_piece at) ∷ []
@@ -41,7 +44,8 @@ or_later None later = later
 unfoldable pub entry_fault : ℕ → ℕ → ℕ → ℕ → List FaultValue → Option ScriptFaultValue
 entry_fault channels cycles blocks at [] = None
 entry_fault channels cycles blocks at (entry ∷ entries) =
-    or_later (first_broken (rules_of_entry channels cycles blocks at entry)) (entry_fault channels cycles blocks (at + 1) entries)
+    or_later (first_broken (rules_of_entry channels cycles blocks at entry))
+    (entry_fault channels cycles blocks (at + 1) entries)
 
 -- a script has at most 1,024 entries, and each keeps its rules
 unfoldable pub script_fault : ℕ → ℕ → ℕ → List FaultValue → Option ScriptFaultValue

@@ -55,7 +55,8 @@ unfoldable pub tags_closed : List ℕ → TagsValue → TagsValue
 tags_closed planned tags =
     record {
       blocks = tags.blocks;
-      remaining = filter (λ b. has tags.written b || (not (has planned b) && has tags.remaining b)) (numbers_below tags.blocks);
+      remaining = filter (λ b. has tags.written b || (not (has planned b) && has tags.remaining b))
+          (numbers_below tags.blocks);
       cursor = cursor_after tags.blocks tags.cursor (last_or None planned);
       written = [];
     }

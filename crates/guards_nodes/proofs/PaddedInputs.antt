@@ -31,24 +31,28 @@ module _ (inputs : List ℤ) (n : ℕ) where
   value_same (call code x y z) ctx c = rw (value_same x ctx c, value_same y ctx c, value_same z ctx c) refl
   value_same (pick x y z) ctx c = rw (value_same x ctx c, value_same y ctx c, value_same z ctx c) refl
 
-  replaced_same : (set : List (Option Expression)) (old : BlockValue) (ctx : ContextValue) (c : ℕ) → replaced set old ctx padded c ≡ replaced set old ctx inputs c
+  replaced_same : (set : List (Option Expression)) (old : BlockValue) (ctx : ContextValue) (c : ℕ) →
+      replaced set old ctx padded c ≡ replaced set old ctx inputs c
   replaced_same [] old ctx c = refl
   replaced_same (e ∷ set) [] ctx c = refl
   replaced_same (None ∷ set) (w ∷ old) ctx c = ap (λ ws. w ∷ ws) (replaced_same set old ctx c)
   replaced_same (Some e ∷ set) (w ∷ old) ctx c = rw (value_same e ctx c, replaced_same set old ctx c) refl
 
-  written_same : (w : Option WriteValue) (ctx : ContextValue) (c : ℕ) → written_if w ctx padded c ≡ written_if w ctx inputs c
+  written_same : (w : Option WriteValue) (ctx : ContextValue) (c : ℕ) →
+      written_if w ctx padded c ≡ written_if w ctx inputs c
   written_same None ctx c = refl
   written_same (Some w) ctx c = ap (slice_set ctx w.block) (replaced_same w.set (block_at ctx w.block) ctx c)
 
-  pub apply_same : (row : List WriteValue) (ctx : ContextValue) (c k : ℕ) → apply row ctx c padded k ≡ apply row ctx c inputs k
+  pub apply_same : (row : List WriteValue) (ctx : ContextValue) (c k : ℕ) →
+      apply row ctx c padded k ≡ apply row ctx c inputs k
   apply_same row ctx c zero = refl
   apply_same row ctx c (suc k) =
       written_same (slice_get row k) (apply row ctx c padded k) c
       ∙ ap (λ after. written_if (slice_get row k) after inputs c) (apply_same row ctx c k)
 
   -- the context after a row
-  pub whole_same : (row : List WriteValue) (ctx : ContextValue) (c : ℕ) → whole row ctx c padded ≡ whole row ctx c inputs
+  pub whole_same : (row : List WriteValue) (ctx : ContextValue) (c : ℕ) →
+      whole row ctx c padded ≡ whole row ctx c inputs
   whole_same row ctx c = apply_same row ctx c (length row)
 
   copies_same : (ctx : ContextValue) (row : List WriteValue) (c : ℕ) (whole_plan plan places : List ℕ) →

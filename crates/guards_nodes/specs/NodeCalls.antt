@@ -46,8 +46,8 @@ abbrev pub items_or_none : Option ExchangeValue → List ItemValue
 items_or_none None = []
 items_or_none (Some exchange) = exchange.items
 
--- An exchange was received: where the node stood for some list with nothing of this round and sender yet, it is now what
--- stands for this list with these items.
+-- An exchange was received: where the node stood for some list with nothing of this round and sender yet, it is now
+-- what stands for this list with these items.
 abbrev pub HasReceived : ℕ → Channel → List ItemValue → NodeValue → NodeValue → Type 0
 HasReceived round from items old new =
     (received : Received) → StandsFor old.state received → received round from ≡ [] →

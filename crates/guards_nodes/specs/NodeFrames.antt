@@ -64,7 +64,8 @@ final_to rules target r closed =
     else None
 
 abbrev pub final_of : RulesValue → Channel → StateValue → Option BodyValue
-final_of rules target state = option_and_then (λ r. option_and_then (final_to rules target r) r.closed) (running_or_none state)
+final_of rules target state =
+    option_and_then (λ r. option_and_then (final_to rules target r) r.closed) (running_or_none state)
 
 -- the active set of the next cycle
 abbrev pub switch_of : StateValue → Option BodyValue

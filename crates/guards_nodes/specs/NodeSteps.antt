@@ -82,7 +82,10 @@ with_damage block word value r = record r { held = record r.held { context = wit
 abbrev pub after_request : Channel → Option ℕ → RunningValue → RunningValue
 after_request from have r =
     record r {
-      progress = record r.progress { hearing = slice_set r.hearing from (request_code (transfer_in r.control.sweeping) from (Some have)) };
+      progress = record r.progress {
+        hearing =
+            slice_set r.hearing from (request_code (transfer_in r.control.sweeping) from (Some have));
+      };
     }
 
 -- the source word: the sensors, and whom the channel accused and what it heard in the cycle before
@@ -146,7 +149,8 @@ plan_in rules h = planned_by rules.sweep h.control.sweeping
 
 -- what the channel's round begins with
 abbrev pub origin_by : RulesValue → List WriteValue → ℕ → HeldValue → DecidedValue → Origin
-origin_by rules row c h d = record { context = h.context; row = row; cycle = c; inputs = d.inputs; plan = plan_in rules h }
+origin_by rules row c h d =
+    record { context = h.context; row = row; cycle = c; inputs = d.inputs; plan = plan_in rules h }
 
 -- the writes of the cycle's row are done, and the copies fell as the steps stand
 abbrev pub after_steps : RulesValue → List WriteValue → ℕ → List Actor → DecidedValue → RunningValue → RunningValue
@@ -154,7 +158,11 @@ after_steps rules row c steps d r =
     record {
       held = record r.held { context = whole row r.context c d.inputs };
       progress = record r.progress {
-        worked = Some (record { cycle = c; steps = steps; copies = copies_of_replay (origin_by rules row c r.held d) steps });
+        worked = Some (record {
+          cycle = c;
+          steps = steps;
+          copies = copies_of_replay (origin_by rules row c r.held d) steps;
+        });
       };
     }
 
@@ -176,14 +184,16 @@ with_own me own ballots = by_channel (λ j. if j == me then Some own else place_
 
 -- the vote on each output word
 abbrev pub voted_by : Channel → List (ℕ × ℕ) → Ballots → RunningValue → List (Option ℤ)
-voted_by me outputs ballots r = vote_of r.control.active (length outputs) (with_own me (words_at outputs r.context) ballots)
+voted_by me outputs ballots r =
+    vote_of r.control.active (length outputs) (with_own me (words_at outputs r.context) ballots)
 
 -- the accusations are kept for the source word of the next cycle
 abbrev pub after_votes : Channel → List (ℕ × ℕ) → Ballots → RunningValue → RunningValue
 after_votes me outputs ballots r =
     record r {
       held = record r.held {
-        accused = accused_of r.control.active (with_own me (words_at outputs r.context) ballots) (voted_by me outputs ballots r);
+        accused = accused_of r.control.active (with_own me (words_at outputs r.context) ballots)
+            (voted_by me outputs ballots r);
       };
     }
 
@@ -238,4 +248,7 @@ after_final_frames frames j = with_content (final_taken frames j.replica) j
 -- it runs with the context and the control that it took, and has accused and heard nobody yet
 abbrev pub risen : JoinerValue → ControlValue → RunningValue
 risen j control =
-    record { held = record { context = j.replica.blocks; control = control; accused = []; heard = no_codes }; progress = no_progress }
+    record {
+      held = record { context = j.replica.blocks; control = control; accused = []; heard = no_codes };
+      progress = no_progress;
+    }

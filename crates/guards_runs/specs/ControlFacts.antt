@@ -43,10 +43,12 @@ pub record ControlFollows (M : MissionValue) (past : Past) (e : Cycle) : Type 0 
   -- from any agreed words it decides what the facts decide from them
   pub decides : (agreed : Agreed) →
       decided_by M.rules (this_cycle past) (control_after_past M past) agreed ≡ decision_of M past e.opening agreed
-  -- with the cycle's decision, and any list of just the blocks that are written, it becomes the control of the next cycle
+  -- with the cycle's decision, and any list of just the blocks that are written, it becomes the control of the next
+  -- cycle
   pub closes : (written : List ℕ) → ((b : ℕ) → has written b ≡ has (written_blocks M (this_cycle past)) b) →
       control_closed M.rules.last e.removed e.planned written
-      (control_decided M.rules (this_cycle past) (control_after_past M past) e.decision) ≡ control_after_past M (e ∷ past)
+      (control_decided M.rules (this_cycle past) (control_after_past M past) e.decision)
+      ≡ control_after_past M (e ∷ past)
   -- and answers what the facts say
   pub answers : (written : List ℕ) → ((b : ℕ) → has written b ≡ has (written_blocks M (this_cycle past)) b) →
       closed_by M.rules.last e.planned written

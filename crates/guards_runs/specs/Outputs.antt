@@ -34,8 +34,8 @@ outputs_after version steps start L (suc c) =
 abbrev pub words_after : MissionValue → ActuatorValue → Log → ℕ → List ℤ
 words_after M a L n = outputs_after M.rules.version a.steps a.start L n
 
--- the words of an actuator after so many cycles that did not stop: each moved by each cycle towards the output words of the
--- ideal context
+-- the words of an actuator after so many cycles that did not stop: each moved by each cycle towards the output words of
+-- the ideal context
 abbrev pub ideal_outputs : MissionValue → List ℤ → List ℤ → Log → ℕ → List ℤ
 ideal_outputs M steps start L zero = start
 ideal_outputs M steps start L (suc c) =
@@ -54,7 +54,8 @@ pub record IsOutputDue (version c : ℕ) (q : Channel) (words : List ℤ) (entry
 -- the output entries of a cycle: each channel that is active and up at its end sends the words of its vote
 abbrev pub AreOutputsDue : ℕ → ℕ → Cycle → Log → Type 0
 AreOutputsDue version c e now =
-    AllZip (λ q entry. IsOutputDue version c q (voted_words (place_or e.voted q [])) entry) (channels_running_in Switch e) now
+    AllZip (λ q entry. IsOutputDue version c q (voted_words (place_or e.voted q [])) entry)
+    (channels_running_in Switch e) now
 
 -- ---- the stop
 

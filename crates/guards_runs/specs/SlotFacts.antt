@@ -19,8 +19,8 @@ abbrev pub AreFromPlace : ℕ → ℕ → Log → Type 0
 AreFromPlace c place entries =
     AllByRecursion (λ (e : EntryValue). (c < e.cycle) ⊎ ((e.cycle ≡ c) × (place ≤ slot_index e.slot))) entries
 
--- A frame is owed by what arrived in earlier slots: entries of its own slot and of later ones change neither who sends in
--- the slot to whom, nor what is sent.
+-- A frame is owed by what arrived in earlier slots: entries of its own slot and of later ones change neither who sends
+-- in the slot to whom, nor what is sent.
 pub record FramesStay (M : MissionValue) (entries new : Log) (past : Past) (slot : Slot) : Type 0 where
   pub carries : slot_carries (this_cycle past) (cycle_from M (entries ++ new) past) slot
       ≡ slot_carries (this_cycle past) (cycle_from M entries past) slot
@@ -37,8 +37,8 @@ StopStays M entries new past slot =
     halts (this_cycle past) (cycle_from M (entries ++ new) past) slot
     ≡ halts (this_cycle past) (cycle_from M entries past) slot
 
--- A frame is sent in a slot of cycle e, after the past: the slot carries frames, and who sends it and who receives it do so
--- there. The copies of a sweep frame fell at places that some order of the steps gives.
+-- A frame is sent in a slot of cycle e, after the past: the slot carries frames, and who sends it and who receives it
+-- do so there. The copies of a sweep frame fell at places that some order of the steps gives.
 pub record IsSent (M : MissionValue) (past : Past) (e : Cycle) (slot : Slot) (from to : ℕ)
     (places : List ℕ) : Type 0 where
   pub carries : carries_frames e slot ≡ true

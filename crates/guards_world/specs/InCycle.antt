@@ -33,10 +33,11 @@ ledger_in M e slot =
       damaged = channels_where (λ q. is_damaged e q slot);
     }
 
--- The modes are those of `slot`. So many slots are carried: their due entries are in the log, and none of them halts. So
--- many are handed over: each node holds what the facts say when these are done. `earlier` has the entries of the earlier cycles,
--- and `current` those of this one.
-pub record InCycle (M : MissionValue) (earlier current : Log) (steps : Steps) (slot : Slot) (carried handed : ℕ) (w : WorldValue) : Type 0 where
+-- The modes are those of `slot`. So many slots are carried: their due entries are in the log, and none of them halts.
+-- So many are handed over: each node holds what the facts say when these are done. `earlier` has the entries of the
+-- earlier cycles, and `current` those of this one.
+pub record InCycle (M : MissionValue) (earlier current : Log) (steps : Steps) (slot : Slot) (carried handed : ℕ)
+    (w : WorldValue) : Type 0 where
   pub mission : w.mission ≡ M
   pub ranges : IsMission M
   pub below : w.done < M.cycles

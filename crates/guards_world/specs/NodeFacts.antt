@@ -1,4 +1,5 @@
--- What the facts of a run say that each node holds: between two cycles, and after each slot of a cycle. This project's own.
+-- What the facts of a run say that each node holds: between two cycles, and after each slot of a cycle. This project's
+-- own.
 use Rattle.std.specs.Prelude.{ℕ, zero, suc, Bool, ◌&&◌, not, ◌==◌, nat_lt, [], ◌∷◌, Some, None, if◌then◌else◌}
 use Rattle.guards_model.specs.declared.Slot.{Slot}
 use Rattle.guards_model.specs.declared.Slot.TheVariants.{Request, Round3, Tasks, Vote, Sweep, Final}
@@ -42,9 +43,9 @@ state_of_mode r j (waiting n) = resting
 state_of_mode r j joining = returning j
 
 -- The state of each node after the past. That a node holds just this is, part by part: its context is the held one
--- (`context_after`), its control is that of the decisions so far (`control_after_past`), its accusations and its codes are those
--- of the votes and requests of the cycle before (`accused_before`, `heard_before`), its mode is that of the script
--- (`mode_after`), and a joining node's replica is what the sweep frames made of it.
+-- (`context_after`), its control is that of the decisions so far (`control_after_past`), its accusations and its codes
+-- are those of the votes and requests of the cycle before (`accused_before`, `heard_before`), its mode is that of the
+-- script (`mode_after`), and a joining node's replica is what the sweep frames made of it.
 abbrev pub state_at : MissionValue → Past → Channel → StateValue
 state_at M past q = state_of_mode (running_at M past q) (joiner_at M past q) (mode_after M past q)
 
@@ -77,13 +78,15 @@ abbrev pub since : {A : Type 0} → Slot → ℕ → A → A → A
 since slot done before after = if is_done slot done then after else before
 
 abbrev pub context_in : Cycle → ℕ → Channel → ContextValue
-context_in e done q = context_or_none (since Tasks done (place_or e.contexts_before q None) (place_or e.contexts_after q None))
+context_in e done q = context_or_none
+    (since Tasks done (place_or e.contexts_before q None) (place_or e.contexts_after q None))
 
 -- the decision stands from the last round on, and the control of the next cycle from the sweep slot on
 abbrev pub control_in : MissionValue → Past → Cycle → ℕ → ControlValue
 control_in M past e done =
     since Sweep done
-    (since Round3 done (control_after_past M past) (control_decided M.rules (this_cycle past) (control_after_past M past) e.decision))
+    (since Round3 done (control_after_past M past)
+    (control_decided M.rules (this_cycle past) (control_after_past M past) e.decision))
     (control_after_past M (e ∷ past))
 
 abbrev pub held_in : MissionValue → Past → Cycle → ℕ → Channel → HeldValue
@@ -133,7 +136,8 @@ abbrev pub running_value_in : MissionValue → Past → Cycle → Steps → ℕ 
 running_value_in M past e steps done q =
     record { held = held_in M past e done q; progress = progress_in M past e steps done q }
 
--- a joining channel's replica has this cycle's sweep frames from the sweep slot on, and the final content from the final slot on
+-- a joining channel's replica has this cycle's sweep frames from the sweep slot on, and the final content from the
+-- final slot on
 abbrev pub joiner_swept : MissionValue → Past → Cycle → Channel → JoinerValue
 joiner_swept M past e q = record { replica = replica_after M q (e ∷ past); taken = None }
 
@@ -145,7 +149,8 @@ joiner_in M past e done q =
 
 -- the state of each node in a mode, where so many slots are done
 abbrev pub state_done : MissionValue → Past → Cycle → Steps → ModeValue → ℕ → Channel → StateValue
-state_done M past e steps mode done q = state_of_mode (running_value_in M past e steps done q) (joiner_in M past e done q) mode
+state_done M past e steps mode done q =
+    state_of_mode (running_value_in M past e steps done q) (joiner_in M past e done q) mode
 
 -- the state of each node with the modes of a slot, where so many slots are done
 unfoldable pub state_in : MissionValue → Past → Cycle → Steps → Slot → ℕ → Channel → StateValue

@@ -24,7 +24,8 @@ pub record MayOpen (M : MissionValue) (node : NodeValue) : Type 0 where
   pub mine : (r : RunningValue) → node.state ≡ running r → IsTrue (has r.control.active node.channel)
   pub some : (r : RunningValue) → node.state ≡ running r → 3 ≤ length r.control.active
 
--- in cycle c a running channel is damaged as the script says, and sends its source word; another one begins to join, or not
+-- in cycle c a running channel is damaged as the script says, and sends its source word; another one begins to join, or
+-- not
 abbrev pub opened_in : MissionValue → ℕ → Bool → Channel → StateValue → StateValue
 opened_in M c begins q (running r) = running (after_source q M.width (sensor M q c) (after_damages M.script q c r))
 opened_in M c begins q fallen = joiner_if M.rules.blocks begins fallen
@@ -87,12 +88,13 @@ tree_in fallen = None
 tree_in resting = None
 tree_in (returning j) = None
 
--- A node stands for what it received, which has nothing of a round and these senders yet; the others are other members of
--- its exchange, and there is such a round.
+-- A node stands for what it received, which has nothing of a round and these senders yet; the others are other members
+-- of its exchange, and there is such a round.
 pub record MayTake (round : ℕ) (others senders : ChannelSet) (received : Received) (node : NodeValue) : Type 0 where
   pub stands : StandsFor node.state received
   pub fresh : IsNewOf round senders received
-  pub member : (t : ExchangeTreeValue) (j : Channel) → tree_in node.state ≡ Some t → has others j ≡ true → has t.active j ≡ true
+  pub member : (t : ExchangeTreeValue) (j : Channel) → tree_in node.state ≡ Some t → has others j ≡ true →
+      has t.active j ≡ true
   pub another : (t : ExchangeTreeValue) → tree_in node.state ≡ Some t → has others t.me ≡ false
   pub high : (t : ExchangeTreeValue) → tree_in node.state ≡ Some t → round ≤ tolerated_faults t.active + 1
 
@@ -211,7 +213,8 @@ takes members got node = takes_in (finals_of members got node.channel) node.stat
 
 -- the frames that arrived are in range of some version
 abbrev pub AreInRange : Bodies → Type 0
-AreInRange got = (j q : ℕ) (body : BodyValue) → got j q ≡ Some body → (version : ℕ) × (body_in_range version j body ≡ true)
+AreInRange got = (j q : ℕ) (body : BodyValue) → got j q ≡ Some body →
+    (version : ℕ) × (body_in_range version j body ≡ true)
 
 -- a running channel that is switched off rests, and a joining one that took a content runs with it
 abbrev pub ended_on : ChannelSet → NodeValue → NodeValue

@@ -18,8 +18,9 @@ use Rattle.guards_world.specs.SlotSteps.{ended_state}
 use Rattle.guards_world.specs.Worlds.{WorldValue, settled_after}
 use Rattle.guards_world.specs.InCycle.{node_in, ledger_in}
 
--- The nodes that are switched off rest, those that took a final content run, the ledger and the switches are those after
--- the cycle, and one cycle more is done. `earlier` has the entries of the earlier cycles, and `current` those of this one.
+-- The nodes that are switched off rest, those that took a final content run, the ledger and the switches are those
+-- after the cycle, and one cycle more is done. `earlier` has the entries of the earlier cycles, and `current` those of
+-- this one.
 abbrev pub world_after : MissionValue → Log → Log → Steps → ℕ → ℕ → WorldValue
 world_after M earlier current steps n carried =
     let past : Past = cycles_before M (earlier ++ current) n in
@@ -28,7 +29,9 @@ world_after M earlier current steps n carried =
       mission = M;
       done = suc n;
       carried = carried;
-      nodes = map (λ q. node_with M q (ended_state (has (active_set M (e ∷ past)) q) (state_in M past e steps Switch (stage_after Switch) q))) (channels_of M);
+      nodes = map (λ q. node_with M q
+          (ended_state (has (active_set M (e ∷ past)) q) (state_in M past e steps Switch (stage_after Switch) q)))
+          (channels_of M);
       ledger = ledger_at M (e ∷ past);
       switches = active_set M (e ∷ past);
       spent = None;
@@ -52,11 +55,13 @@ world_in M L steps slot handed w =
 -- the next entries of a slot were carried, one for each of these carries: each is due by the facts so far
 abbrev pub AreDueCarries : MissionValue → Log → ℕ → Steps → List Carry → Log → Type 0
 AreDueCarries M L n steps carries new =
-    AllZip (λ carry entry. IsMadeBy M (cycles_before M L n) (cycle_at M L n) (steps_of steps carry.from) carry entry) carries new
+    AllZip (λ carry entry. IsMadeBy M (cycles_before M L n) (cycle_at M L n) (steps_of steps carry.from) carry entry)
+    carries new
 
 -- The run stops in a slot of cycle n, and in no earlier one: the entries up to the end of the slot are due.
 pub record IsStopIn (M : MissionValue) (earlier current : Log) (n : ℕ) (steps : Steps) (slot : Slot) : Type 0 where
-  pub due : AreDueCarries M (earlier ++ current) n steps (carries_through n (cycle_at M (earlier ++ current) n) slot) current
+  pub due : AreDueCarries M (earlier ++ current) n steps (carries_through n (cycle_at M (earlier ++ current) n) slot)
+      current
   pub stops : stop_in n (cycle_at M (earlier ++ current) n)
       ≡ Some (record {
         cycle = n;
@@ -76,7 +81,8 @@ IsFront M earlier current n =
 
 -- what a piece is to its receiver: the frame that it spells, where it counts
 abbrev pub read_piece : FormatValue → ℕ → Slot → Channel → ℕ → Option (List ℕ) → Option BodyValue
-read_piece format c slot from to delivered = option_and_then (counting format c slot from to) (option_and_then frame_in delivered)
+read_piece format c slot from to delivered =
+    option_and_then (counting format c slot from to) (option_and_then frame_in delivered)
 
 -- what was delivered of an entry is what its receiver has received by the entries of a cycle
 abbrev pub Arrives : MissionValue → Log → Carry → EntryValue → Type 0

@@ -36,13 +36,17 @@ send_to M c slot received node to = option_map (send_by c slot node to) (body_of
 
 -- what a node sends to these receivers, none to itself
 abbrev pub sends_of : MissionValue → ℕ → Slot → List ℕ → Received → NodeValue → List SendValue
-sends_of M c slot receivers received node = filter_map (send_to M c slot received node) (without receivers (node.channel ∷ []))
+sends_of M c slot receivers received node =
+    filter_map (send_to M c slot received node) (without receivers (node.channel ∷ []))
 
 -- what a frame is to these receivers, none to its sender
 abbrev pub sends_by : ℕ → Slot → List ℕ → Option FrameValue → List SendValue
 sends_by c slot receivers None = []
 sends_by c slot receivers (Some frame) =
-    map (λ to. record { carry = record { cycle = c; slot = slot; from = frame.sender; to = to }; bytes = spelling frame })
+    map (λ to. record {
+      carry = record { cycle = c; slot = slot; from = frame.sender; to = to };
+      bytes = spelling frame;
+    })
     (without receivers (frame.sender ∷ []))
 
 -- the frames of the sweep and final slots have a target, and those of the others are the same for every receiver
@@ -60,7 +64,8 @@ has_targets Output = false
 
 -- what all nodes send, one after the other
 abbrev pub all_sends : MissionValue → ℕ → Slot → List ℕ → AllReceived → List NodeValue → List SendValue
-all_sends M c slot receivers received nodes = flat_map (λ node. sends_of M c slot receivers (received node.channel) node) nodes
+all_sends M c slot receivers received nodes =
+    flat_map (λ node. sends_of M c slot receivers (received node.channel) node) nodes
 
 -- a node of the mission, each of whose frames in the slot has a spelling
 pub record MaySend (M : MissionValue) (c : ℕ) (slot : Slot) (received : AllReceived) (node : NodeValue) : Type 0 where

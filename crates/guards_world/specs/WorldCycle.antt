@@ -61,7 +61,8 @@ pub record IsLinePadded (M : MissionValue) (l : LineValue) : Type 0 where
   pub counts : drop M.rules.channels l.counts ≡ replicate (7 - M.rules.channels) 0
 
 -- The cycle finished. `e` has its facts, from the log with this cycle's entries.
-pub record Finishes (old : WorldValue) (earlier current : Log) (part : RecordValue) (new : WorldValue) (e : Cycle) (past : Past) : Type 0 where
+pub record Finishes (old : WorldValue) (earlier current : Log) (part : RecordValue) (new : WorldValue) (e : Cycle)
+    (past : Past) : Type 0 where
   pub past_is : past ≡ cycles_before old.mission (earlier ++ current) old.done
   pub facts : e ≡ next_cycle old.mission (earlier ++ current) past
   pub steps : Steps
@@ -87,7 +88,8 @@ pub record Finishes (old : WorldValue) (earlier current : Log) (part : RecordVal
       option_and_then context_of (node_of new q) ≡ context_taken old.mission q past e
 
 -- The cycle stopped at the end of a slot: the entries up to there are due, and nothing was computed from that slot.
-pub record Stops (old : WorldValue) (earlier current : Log) (stop : StopValue) (new : WorldValue) (e : Cycle) (past : Past) : Type 0 where
+pub record Stops (old : WorldValue) (earlier current : Log) (stop : StopValue) (new : WorldValue) (e : Cycle)
+    (past : Past) : Type 0 where
   pub past_is : past ≡ cycles_before old.mission (earlier ++ current) old.done
   pub facts : e ≡ next_cycle old.mission (earlier ++ current) past
   pub steps : Steps
@@ -102,7 +104,8 @@ pub record Stops (old : WorldValue) (earlier current : Log) (stop : StopValue) (
   pub spent : new.spent ≡ Some (disturbed stop)
 
 -- Memory ran out: the entries are the first of the due ones.
-pub record CycleRunsOutOfMemory (old : WorldValue) (earlier current : Log) (new : WorldValue) (e : Cycle) (past : Past) : Type 0 where
+pub record CycleRunsOutOfMemory (old : WorldValue) (earlier current : Log) (new : WorldValue) (e : Cycle)
+    (past : Past) : Type 0 where
   pub past_is : past ≡ cycles_before old.mission (earlier ++ current) old.done
   pub facts : e ≡ next_cycle old.mission (earlier ++ current) past
   pub due : AllZip (IsDue old.mission past e) (take (length current) (cycle_carries old.done e)) current
@@ -113,8 +116,10 @@ pub record CycleRunsOutOfMemory (old : WorldValue) (earlier current : Log) (new 
 -- what a world that is not spent does, by the answer
 abbrev pub Ends : WorldValue → Log → Log → Result RecordValue HaltValue → WorldValue → Type 0
 Ends old earlier current (Ok part) new = (e : Cycle) × (past : Past) × Finishes old earlier current part new e past
-Ends old earlier current (Err (disturbed stop)) new = (e : Cycle) × (past : Past) × Stops old earlier current stop new e past
-Ends old earlier current (Err no_memory) new = (e : Cycle) × (past : Past) × CycleRunsOutOfMemory old earlier current new e past
+Ends old earlier current (Err (disturbed stop)) new = (e : Cycle) × (past : Past)
+    × Stops old earlier current stop new e past
+Ends old earlier current (Err no_memory) new = (e : Cycle) × (past : Past)
+    × CycleRunsOutOfMemory old earlier current new e past
 
 -- What a call does that passes one cycle. A spent world answers its halt again and carries nothing.
 abbrev pub PassesCycle : (List RuleValue → EntryValue → Type 0) → Option HaltValue → WorldValue → BusValue →

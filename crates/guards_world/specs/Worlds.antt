@@ -44,8 +44,8 @@ last_entries n log = drop (length (without_outputs log) - n) (without_outputs lo
 abbrev pub past_of : WorldValue → Log → Past
 past_of w L = cycles_before w.mission L w.done
 
--- A list of entries stands for a world: they are the due ones of the cycles done, none of these stopped, and each part of
--- the world is what the facts of these cycles say.
+-- A list of entries stands for a world: they are the due ones of the cycles done, none of these stopped, and each part
+-- of the world is what the facts of these cycles say.
 pub record StandsForWorld (w : WorldValue) (L : Log) : Type 0 where
   pub mission : IsMission w.mission
   pub cycles : w.done ≤ w.mission.cycles

@@ -21,7 +21,8 @@ fn lines_of(text: &str, cycle: &str, front: &str, back: &str) -> (u32, bool) {
     (count, ends)
 }
 
-// The crashed channel has no line in its cycle, three others have, and the transfer ends in the next one as it does else.
+// The crashed channel has no line in its cycle, three others have, and the transfer ends in the next one as it does
+// else.
 fn goes_on(ended: &Ended) -> bool {
     let (all, _) = lines_of(&ended.text, "cycle 4 ", "ch ", "");
     let (own, _) = lines_of(&ended.text, "cycle 4 ", "ch 1", "");

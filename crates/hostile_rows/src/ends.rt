@@ -17,7 +17,8 @@ fn last_bracket() -> usize {
     last
 }
 
-/// How many fronts of the mission that end before its last bracket are refused as a bad mission, and how many there are.
+/// How many fronts of the mission that end before its last bracket are refused as a bad mission, and how many there
+/// are.
 pub fn fronts<R: Threads + Wait + Sync>(
     rt: &R,
     alloc: Global,
@@ -38,8 +39,8 @@ fn is_read_fault(ended: &Ended) -> bool {
     ended.status == 5 && ended.text.as_str() == "read fault\n"
 }
 
-/// How many calls of a source that gives one byte at a time end the run where they fail. The last one is at the end of the
-/// input.
+/// How many calls of a source that gives one byte at a time end the run where they fail. The last one is at the end of
+/// the input.
 pub fn broken_reads<R: Threads + Wait + Sync>(rt: &R, alloc: Global) -> Result<usize, AllocError> {
     let mut broken: usize = 0;
     for number in 0..SUM.len().saturating_add(1) {

@@ -1,5 +1,5 @@
-//! Pieces that stand in the place of a frame of a transfer. A carry is a line: its cycle, the number and the name of its slot,
-//! its sender and its receiver.
+//! Pieces that stand in the place of a frame of a transfer. A carry is a line: its cycle, the number and the name of
+//! its slot, its sender and its receiver.
 use crate::stage::{returning, run, run_over, smooth};
 use ctx_lock::OpenGate;
 use guards_base::Bytes;
@@ -8,8 +8,8 @@ use std::alloc::{AllocError, Global};
 use std::sync::Wait;
 use std::thread::Threads;
 
-// The changes of a frame: how many bytes are taken from its end, how many zeros are put there, and a byte's place and value.
-// The last four are of its first byte, its sender, its cycle and its kind.
+// The changes of a frame: how many bytes are taken from its end, how many zeros are put there, and a byte's place and
+// value. The last four are of its first byte, its sender, its cycle and its kind.
 const CHANGES: &str = "9999 0 9999 0
 9999 1 9999 0
 1 0 9999 0

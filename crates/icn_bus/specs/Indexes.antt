@@ -1,4 +1,5 @@
--- How rules are found by cycle and slot: each rule is in a bucket, and from each rule a link leads to the next of its bucket.
+-- How rules are found by cycle and slot: each rule is in a bucket, and from each rule a link leads to the next of its
+-- bucket.
 use Rattle.std.specs.Prelude.{◌≡◌, ◌≢◌, ℕ, ◌+◌, ◌*◌, ◌%◌, ◌<◌, ◌≤◌, List, length, map, slice_index}
 use Rattle.guards_model.specs.declared.Slot.{Slot}
 use Rattle.guards_model.specs.Slots.{slot_index}
@@ -21,7 +22,8 @@ pub record LeadsTo (buckets : List ℕ) (wanted from here : ℕ) : Type 0 where
 -- heads and links lead right from this place on
 pub record LeadsFrom (place : ℕ) (buckets heads nexts : List ℕ) : Type 0 where
   pub first : (b : ℕ) → b < length heads → LeadsTo buckets b place (slice_index heads b)
-  pub next : (i : ℕ) → place ≤ i → i < length buckets → LeadsTo buckets (slice_index buckets i) (i + 1) (slice_index nexts i)
+  pub next : (i : ℕ) → place ≤ i → i < length buckets →
+      LeadsTo buckets (slice_index buckets i) (i + 1) (slice_index nexts i)
 
 -- the rules are found by these heads and links
 pub record IsIndex (rules : List RuleValue) (heads nexts : List ℕ) : Type 0 where

@@ -29,7 +29,14 @@ impl Model for Entry {
 
     ghost Value = { EntryValue };
 
-    ghost view = { λ e. record { cycle = e.cycle; slot = e.slot; from = e.from; to = e.to; sent = e.sent.items; delivered = option_map (λ piece. piece.items) e.delivered } };
+    ghost view = { λ e. record {
+      cycle = e.cycle;
+      slot = e.slot;
+      from = e.from;
+      to = e.to;
+      sent = e.sent.items;
+      delivered = option_map (λ piece. piece.items) e.delivered;
+    } };
 }
 
 /// What was delivered of a piece, beside what was sent: its bytes only where they may be others.
@@ -126,7 +133,8 @@ pub trait Bus {
 
 /// A copy of a piece.
 pub fn copied(alloc: Global, piece: &Option<Bytes>) -> Result<Option<Bytes>, AllocError>
-    ensures { IfOk result (λ copy. option_map (λ bytes. bytes.items) copy ≡ option_map (λ bytes. bytes.items) piece.now) }
+    ensures { IfOk result (λ copy. option_map (λ bytes. bytes.items) copy
+        ≡ option_map (λ bytes. bytes.items) piece.now) }
 {
     match piece {
         None => Ok(None),
@@ -136,7 +144,8 @@ pub fn copied(alloc: Global, piece: &Option<Bytes>) -> Result<Option<Bytes>, All
 
 /// What an act delivers of a piece.
 pub fn delivered(alloc: Global, act: &Act, sent: &[u8]) -> Result<Option<Bytes>, AllocError>
-    ensures { IfOk result (λ piece. option_map (λ bytes. bytes.items) piece ≡ delivered_piece sent.now (act_value act.now)) }
+    ensures { IfOk result (λ piece. option_map (λ bytes. bytes.items) piece
+        ≡ delivered_piece sent.now (act_value act.now)) }
 {
     match act {
         Act::Lose => Ok(None),

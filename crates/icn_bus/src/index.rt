@@ -72,7 +72,8 @@ fn buckets(alloc: Global, rules: &[Rule]) -> Result<Vec<usize>, AllocError>
     Ok(buckets)
 }
 
-/// Sets heads and links so that they lead from each bucket to its first place, and from each place to the next of its bucket.
+/// Sets heads and links so that they lead from each bucket to its first place, and from each place to the next of its
+/// bucket.
 #[tactic(auto, using(crate::proofs::Links::leads_none, crate::proofs::Links::leads_more))]
 fn link(buckets: &[usize], heads: &mut [usize], nexts: &mut [usize])
     requires inside { All (λ b. b < length heads.old) buckets.now }

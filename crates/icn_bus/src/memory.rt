@@ -30,7 +30,11 @@ impl Model for MemBus {
 
     ghost use Rattle.icn_bus.specs.Acts.{act_value};
 
-    ghost view = { λ bus. record { log = bus.log.items; script = bus.rules.items; acts = map (option_map act_value) bus.acts.items } };
+    ghost view = { λ bus. record {
+      log = bus.log.items;
+      script = bus.rules.items;
+      acts = map (option_map act_value) bus.acts.items;
+    } };
 }
 
 impl MemBus {
@@ -63,7 +67,8 @@ fn delivered_in_turn(
     before: usize,
     sent: &[u8],
 ) -> Result<Option<Bytes>, AllocError>
-    ensures { IfOk result (λ piece. option_map (λ bytes. bytes.items) piece ≡ by_act sent.now (act_in_turn (map (option_map act_value) acts.now.items) before)) }
+    ensures { IfOk result (λ piece. option_map (λ bytes. bytes.items) piece
+        ≡ by_act sent.now (act_in_turn (map (option_map act_value) acts.now.items) before)) }
 {
     if before >= acts.len() {
         return Ok(Some(Bytes::from_slice(alloc, sent)?));
@@ -100,7 +105,9 @@ impl Bus for MemBus {
         ensures carried { IfOk result (λ answer. Adds (λ _ _. ⊤) self.old.script self.old.log self.new.log
             cycle slot from to sent.now (option_map (λ piece. piece.items) answer)) }
         // The act of as many carries before it decides.
-        ensures exact { IfOk result (λ answer. option_map (λ piece. piece.items) answer ≡ by_act sent.now (act_in_turn self.old.acts (length self.old.log))) }
+        ensures exact { IfOk result
+            (λ answer. option_map (λ piece. piece.items) answer
+            ≡ by_act sent.now (act_in_turn self.old.acts (length self.old.log))) }
         ensures refused { OnErr result (self.new.log ≡ self.old.log) }
         ensures script { self.new.script ≡ self.old.script }
         ensures acts { self.new.acts ≡ self.old.acts }

@@ -57,7 +57,8 @@ fn delivered_of(
     to: u8,
     sent: &[u8],
 ) -> Result<Option<Bytes>, AllocError>
-    ensures { IfOk result (λ piece. option_map (λ bytes. bytes.items) piece ≡ delivered_by rules.now cycle slot from to sent.now) }
+    ensures { IfOk result (λ piece. option_map (λ bytes. bytes.items) piece
+        ≡ delivered_by rules.now cycle slot from to sent.now) }
 {
     match rules.first_fitting(cycle, slot, from, to) {
         None => Ok(Some(Bytes::from_slice(alloc, sent)?)),
@@ -75,8 +76,10 @@ fn passed_of(
     to: u8,
     sent: &[u8],
 ) -> Result<(Option<Bytes>, Delivery), AllocError>
-    ensures log { IfOk result (λ r. option_map (λ bytes. bytes.items) r.0 ≡ delivered_by rules.now cycle slot from to sent.now) }
-    ensures answer { IfOk result (λ r. delivery_value sent.now r.1 ≡ delivered_by rules.now cycle slot from to sent.now) }
+    ensures log { IfOk result
+        (λ r. option_map (λ bytes. bytes.items) r.0 ≡ delivered_by rules.now cycle slot from to sent.now) }
+    ensures answer { IfOk result
+        (λ r. delivery_value sent.now r.1 ≡ delivered_by rules.now cycle slot from to sent.now) }
 {
     match rules.first_fitting(cycle, slot, from, to) {
         None => Ok((Some(Bytes::from_slice(alloc, sent)?), Delivery::AsSent)),

@@ -16,9 +16,12 @@ both_places path = path ++ replicate (2 - length path) 0
 pub labels_back : (count : ℕ) (places : List ℕ) → IsLabelPath count places →
     ◌≡◌ {A = ℕ × List ℕ} (length (take count places), both_places (take count places)) (count, places)
 labels_back count places p =
-    let len : length (take count places) ≡ count = length-take-le count places (subst (λ n. count ≤ n) (sym p.two) p.most) in
-    let zeros : replicate (2 - length (take count places)) 0 ≡ drop count places = ap (λ n. replicate (2 - n) 0) len ∙ sym p.unused in
-    let back : both_places (take count places) ≡ places = ap (λ rest. take count places ++ rest) zeros ∙ take-append-drop count places in
+    let len : length (take count places) ≡ count =
+    length-take-le count places (subst (λ n. count ≤ n) (sym p.two) p.most) in
+    let zeros : replicate (2 - length (take count places)) 0 ≡ drop count places =
+    ap (λ n. replicate (2 - n) 0) len ∙ sym p.unused in
+    let back : both_places (take count places) ≡ places =
+    ap (λ rest. take count places ++ rest) zeros ∙ take-append-drop count places in
     let with_count : ℕ → ℕ × List ℕ = λ n. (n, both_places (take count places)) in
     let with_places : List ℕ → ℕ × List ℕ = λ xs. (count, xs) in
     ap with_count len ∙ ap with_places back

@@ -26,7 +26,8 @@ impl Model for Labels {
 
     ghost inverse = { λ path. record { count = length path; at = both_places path } };
 
-    ghost inverse_ok = { λ labels h. ap (λ used. record { count = used.0; at = used.1 }) (labels_back labels.count labels.at h) };
+    ghost inverse_ok = { λ labels h.
+        ap (λ used. record { count = used.0; at = used.1 }) (labels_back labels.count labels.at h) };
 }
 
 /// What the sender holds for a path. A word that is None is missing.
@@ -121,7 +122,8 @@ impl Model for ControlWord {
 
     ghost view = { λ word. record { law = word.law; active = word.active; fresh = word.fresh; counts = word.alphas } };
 
-    ghost inverse = { λ word. record { law = word.law; active = word.active; fresh = word.fresh; alphas = word.counts } };
+    ghost inverse = { λ word.
+        record { law = word.law; active = word.active; fresh = word.fresh; alphas = word.counts } };
 }
 
 /// What a joining channel is sent at the end of its transfer.
@@ -139,7 +141,12 @@ impl Model for FinalBody {
 
     ghost Value = { FinalValue };
 
-    ghost view = { λ last. record { target = last.target; start = last.start; copies = last.blocks.items; control = last.control } };
+    ghost view = { λ last. record {
+      target = last.target;
+      start = last.start;
+      copies = last.blocks.items;
+      control = last.control;
+    } };
 }
 
 /// A list of sweep bodies.
@@ -177,5 +184,10 @@ impl Model for Frame {
 
     ghost use Rattle.icn_frames.specs.Bodies.{view_body};
 
-    ghost view = { λ frame. record { version = frame.version; sender = frame.sender; cycle = frame.cycle; body = view_body frame.body } };
+    ghost view = { λ frame. record {
+      version = frame.version;
+      sender = frame.sender;
+      cycle = frame.cycle;
+      body = view_body frame.body;
+    } };
 }

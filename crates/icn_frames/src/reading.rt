@@ -157,7 +157,8 @@ impl Reader<'_> {
 
     #[tactic(auto, unfolding(guards_model::specs::Fields::counted_by))]
     fn sensor_words(&mut self) -> Result<(u8, [i64; 4]), Unread>
-        ensures { GivesWith (λ x. (take x.0 x.1, self.new)) (λ x. IsPadded 4 x.0 x.1) result (counted_by (between 1 4) word_at self.old) }
+        ensures { GivesWith (λ x. (take x.0 x.1, self.new)) (λ x. IsPadded 4 x.0 x.1) result
+            (counted_by (between 1 4) word_at self.old) }
     {
         let width = self.byte()?;
         if width < 1 || width > 4 {
@@ -170,7 +171,8 @@ impl Reader<'_> {
 
     #[tactic(auto, unfolding(guards_model::specs::Fields::codes_at, guards_model::specs::Fields::unpacked_codes, guards_model::specs::Channels::by_channel))]
     fn codes(&mut self) -> Result<[u8; 7], Unread>
-        ensures { GivesWith (λ codes. (codes, self.new)) (λ codes. list_all (λ code. nat_le code 2) codes ≡ true) result (codes_at self.old) }
+        ensures { GivesWith (λ codes. (codes, self.new)) (λ codes. list_all (λ code. nat_le code 2) codes ≡ true) result
+            (codes_at self.old) }
     {
         let number = self.u16()?;
         if number >= 16384 {

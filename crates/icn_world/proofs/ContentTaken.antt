@@ -41,13 +41,15 @@ taken_in fallen = None
 taken_in resting = None
 
 pub took_by : (taken : ChannelSet) (q : Channel) (r : RunningValue) (j k : JoinerValue) (mode : ModeValue) →
-    (is_joining mode ≡ true → has taken q ≡ is_some k.taken) → state_of_mode r k mode ≡ returning j → has taken q ≡ is_some j.taken
+    (is_joining mode ≡ true → has taken q ≡ is_some k.taken) → state_of_mode r k mode ≡ returning j →
+    has taken q ≡ is_some j.taken
 took_by taken q r j k up h is = absurd cc
 took_by taken q r j k down h is = absurd cc
 took_by taken q r j k (waiting n) h is = absurd cc
 took_by taken q r j k joining h is = h refl ∙ ap (λ s. is_some (taken_in s)) is
 
-pub kept_content : (o : Option FinalValue) (j : JoinerValue) → j.taken ≡ None → is_some (with_content o j).taken ≡ is_some o
+pub kept_content : (o : Option FinalValue) (j : JoinerValue) → j.taken ≡ None →
+    is_some (with_content o j).taken ≡ is_some o
 kept_content None j h = ap (λ t. is_some t) h
 kept_content (Some content) j h = refl
 
@@ -69,7 +71,8 @@ at_place false false u rest h = refl
 -- a test of the one place of a set
 any_at : (t : Channel → Bool) (q : Channel) (qs : ChannelSet) → list_any (λ p. t p && (p == q)) qs ≡ (t q && has qs q)
 any_at t q [] = sym (and-false (t q))
-any_at t q (p ∷ qs) = ap (λ b. (t p && (p == q)) || b) (any_at t q qs) ∙ at_place (p == q) (t p) (t q) (has qs q) (λ is. ap t (eqb-true p q is))
+any_at t q (p ∷ qs) = ap (λ b. (t p && (p == q)) || b) (any_at t q qs)
+    ∙ at_place (p == q) (t p) (t q) (has qs q) (λ is. ap t (eqb-true p q is))
 
 module _ (M : MissionValue) (L : Log) (n : ℕ) (steps : Steps) (mission : IsMission M) where
   abbrev past : Past
@@ -83,28 +86,37 @@ module _ (M : MissionValue) (L : Log) (n : ℕ) (steps : Steps) (mission : IsMis
     finals_are q =
         ap (λ (s : ChannelSet). finals_of s got q) on
         ∙ ap (λ (f : Channel → Option FinalValue). filter_map f e.active)
-        (fun_ext (λ j. ap final_content (are j q ∙ ap (λ (c : ℕ). received_body M e.entries c Final j q) (sym (length-cycles_before M L n)))))
+        (fun_ext (λ j. ap final_content
+        (are j q ∙ ap (λ (c : ℕ). received_body M e.entries c Final j q) (sym (length-cycles_before M L n)))))
 
-    content_is : (q : Channel) → is_joining (mode_in e q Final) ≡ true → takes members got (node_in M L n steps Final (stage_before Final) q) ≡ is_some (content_taken M q past e)
+    content_is : (q : Channel) → is_joining (mode_in e q Final) ≡ true →
+        takes members got (node_in M L n steps Final (stage_before Final) q) ≡ is_some (content_taken M q past e)
     unfolding state_in
     content_is q joins =
-        takes_by (finals_of members got q) (running_value_in M past e steps (stage_before Final) q) (joiner_in M past e (stage_before Final) q) (mode_in e q Final) joins
+        takes_by (finals_of members got q) (running_value_in M past e steps (stage_before Final) q)
+        (joiner_in M past e (stage_before Final) q) (mode_in e q Final) joins
         ∙ ap (λ (frames : List FinalValue). is_some (final_taken frames (replica_after M q (e ∷ past)))) (finals_are q)
 
     abbrev TookThere : ChannelSet → List NodeValue → Type 0
-    TookThere taken nodes = (q : Channel) → q < 7 → has taken q ≡ list_any (λ node. takes members got node && (node.channel == q)) nodes
+    TookThere taken nodes = (q : Channel) → q < 7 →
+        has taken q ≡ list_any (λ node. takes members got node && (node.channel == q)) nodes
 
-    pub have_taken : (taken : ChannelSet) → TookThere taken (map (node_in M L n steps Final (stage_before Final)) (channels_of M)) → HaveTaken taken M L n steps
+    pub have_taken : (taken : ChannelSet) →
+        TookThere taken (map (node_in M L n steps Final (stage_before Final)) (channels_of M)) →
+        HaveTaken taken M L n steps
     unfolding state_in
     have_taken taken took q low =
         record {
           took = λ j is.
-              took_by taken q (running_value_in M past e steps (stage_before Switch) q) j (joiner_in M past e (stage_before Switch) q) (mode_in e q Final)
+              took_by taken q (running_value_in M past e steps (stage_before Switch) q) j
+              (joiner_in M past e (stage_before Switch) q) (mode_in e q Final)
               (λ joins.
               took q low
-              ∙ any-map (λ (node : NodeValue). takes members got node && (node.channel == q)) (node_in M L n steps Final (stage_before Final)) (channels_of M)
+              ∙ any-map (λ (node : NodeValue). takes members got node && (node.channel == q))
+              (node_in M L n steps Final (stage_before Final)) (channels_of M)
               ∙ any_at (λ p. takes members got (node_in M L n steps Final (stage_before Final) p)) q (channels_of M)
-              ∙ within (takes members got (node_in M L n steps Final (stage_before Final) q)) (has (channels_of M) q) (joins_within M L n mission q low Final refl joins)
+              ∙ within (takes members got (node_in M L n steps Final (stage_before Final) q)) (has (channels_of M) q)
+              (joins_within M L n mission q low Final refl joins)
               ∙ content_is q joins
               ∙ sym (kept_content (content_taken M q past e) (joiner_swept M past e q) refl))
               is;
@@ -116,7 +128,8 @@ module _ (M : MissionValue) (L : Log) (n : ℕ) (steps : Steps) (mission : IsMis
 
 -- ---- to the end
 
-joins_by : (r : RunningValue) (k : JoinerValue) (mode : ModeValue) → is_joining mode ≡ true → state_of_mode r k mode ≡ returning k
+joins_by : (r : RunningValue) (k : JoinerValue) (mode : ModeValue) → is_joining mode ≡ true →
+    state_of_mode r k mode ≡ returning k
 joins_by r k up h = absurd cc
 joins_by r k down h = absurd cc
 joins_by r k (waiting n) h = absurd cc
@@ -129,7 +142,8 @@ not_down (waiting n) h = absurd cc
 not_down joining h = refl
 
 -- entries of the switch slot and of later ones change nothing of it
-pub taken_lasts : (M : MissionValue) (L new : Log) (n : ℕ) (steps : Steps) (taken : ChannelSet) → AreFromPlace n 8 new → HaveTaken taken M L n steps →
+pub taken_lasts : (M : MissionValue) (L new : Log) (n : ℕ) (steps : Steps) (taken : ChannelSet) → AreFromPlace n 8 new →
+    HaveTaken taken M L n steps →
     (q : Channel) → q < 7 → is_joining (mode_in (cycle_at M (L ++ new) n) q Switch) ≡ true →
     has taken q ≡ is_some (content_taken M q (cycles_before M (L ++ new) n) (cycle_at M (L ++ new) n))
 unfolding state_in
@@ -137,23 +151,32 @@ taken_lasts M L new n steps taken late have q low joins =
     let past : Past = cycles_before M (L ++ new) n in
     let e : Cycle = cycle_at M (L ++ new) n in
     let k : JoinerValue = joiner_in M past e (stage_before Switch) q in
-    let there : state_in M past e steps Switch (stage_before Switch) q ≡ returning k = joins_by (running_value_in M past e steps (stage_before Switch) q) k (mode_in e q Switch) joins in
+    let there : state_in M past e steps Switch (stage_before Switch) q ≡ returning k =
+    joins_by (running_value_in M past e steps (stage_before Switch) q) k (mode_in e q Switch) joins in
     let was : state_in M past e steps Final (stage_after Final) q ≡ returning k =
-    sym (ap (λ b. cond b fallen (state_in M past e steps Final (stage_after Final) q)) (not_down (mode_in e q Switch) joins))
+    sym (ap (λ b. cond b fallen (state_in M past e steps Final (stage_after Final) q))
+    (not_down (mode_in e q Switch) joins))
     ∙ sym (falls M (L ++ new) past steps q low Final Switch 8 refl refl)
     ∙ there in
-    let here : (node_in M L n steps Final (stage_after Final) q).state ≡ returning k = sym (ap (λ (node : NodeValue). node.state) (node_stays M L new n steps Final 8 q late)) ∙ was in
+    let here : (node_in M L n steps Final (stage_after Final) q).state ≡ returning k =
+    sym (ap (λ (node : NodeValue). node.state) (node_stays M L new n steps Final 8 q late)) ∙ was in
     (have q low).took k here ∙ kept_content (content_taken M q past e) (joiner_swept M past e q) refl
 
 -- ---- the same of a world
 
-pub taken_by : (old w : WorldValue) (earlier current : Log) (steps : Steps) (got : Bodies) (members taken : ChannelSet) → w ≡ old → members ≡ w.switches →
-    InCycle old.mission earlier current steps Final (stage_after Final) (stage_before Final) old → AreArrivals old.mission (earlier ++ current) old.done Final got →
+pub taken_by : (old w : WorldValue) (earlier current : Log) (steps : Steps) (got : Bodies)
+    (members taken : ChannelSet) → w ≡ old → members ≡ w.switches →
+    InCycle old.mission earlier current steps Final (stage_after Final) (stage_before Final) old →
+    AreArrivals old.mission (earlier ++ current) old.done Final got →
     ((q : Channel) → q < 7 → has taken q ≡ list_any (λ node. takes members got node && (node.channel == q)) w.nodes) →
     HaveTaken taken old.mission (earlier ++ current) old.done steps
 taken_by old w earlier current steps got members taken same on inside are took =
     let M = old.mission in
     let all : Log = earlier ++ current in
-    let now_on : members ≡ (cycle_at M all old.done).active = on ∙ ap (λ (x : WorldValue). x.switches) same ∙ inside.switches ∙ sym (active-is M all (cycles_before M all old.done)) in
+    let now_on : members ≡ (cycle_at M all old.done).active =
+    on ∙ ap (λ (x : WorldValue). x.switches) same ∙ inside.switches
+    ∙ sym (active-is M all (cycles_before M all old.done)) in
     have_taken M all old.done steps inside.ranges members got now_on are taken
-    (λ q low. took q low ∙ ap (λ (nodes : List NodeValue). list_any (λ node. takes members got node && (node.channel == q)) nodes) (ap (λ (x : WorldValue). x.nodes) same ∙ inside.nodes))
+    (λ q low. took q low ∙ ap
+    (λ (nodes : List NodeValue). list_any (λ node. takes members got node && (node.channel == q)) nodes)
+    (ap (λ (x : WorldValue). x.nodes) same ∙ inside.nodes))

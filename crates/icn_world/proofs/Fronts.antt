@@ -14,10 +14,13 @@ use Rattle.world_laws.specs.Fronts.{IsRunFront}
 use Rattle.world_laws.proofs.RunFronts.{run_front}
 
 -- where the next slot of the bus is this one
-pub is_front : (M : MissionValue) (earlier current : Log) (steps : Steps) (slot next : Slot) (handed : ℕ) (w : WorldValue) → on_bus next ≡ true →
+pub is_front : (M : MissionValue) (earlier current : Log) (steps : Steps) (slot next : Slot) (handed : ℕ)
+    (w : WorldValue) → on_bus next ≡ true →
     InCycle M earlier current steps slot (stage_before next) handed w → IsRunFront M earlier current w.done
 is_front M earlier current steps slot next handed w on inside =
-    let entered : InCycle M earlier current steps next (stage_before next) (stage_before next) (world_in M (earlier ++ current) steps next (slot_index next) w) =
+    let entered : InCycle M earlier current steps next (stage_before next) (stage_before next)
+    (world_in M (earlier ++ current) steps next (slot_index next) w) =
     enters_slot M earlier current steps slot next (slot_index next) handed (slot_index next) w inside in
     subst (λ (all : Log). IsRunFront M earlier all w.done) (append-nil current)
-    (run_front M earlier current [] steps next on (world_in M (earlier ++ current) steps next (slot_index next) w) entered 0 tt)
+    (run_front M earlier current [] steps next on (world_in M (earlier ++ current) steps next (slot_index next) w)
+    entered 0 tt)

@@ -12,7 +12,8 @@ use Rattle.guards_runs.specs.Cycles.{mode_in, cycle_at}
 use Rattle.world_laws.proofs.OutsideIsDown.{is_down_in}
 use Rattle.icn_world.proofs.Entering.{below_by}
 
-pub joins_within : (M : MissionValue) (L : Log) (n : ℕ) → IsMission M → (q : Channel) → q < 7 → (slot : Slot) → on_bus slot ≡ true →
+pub joins_within : (M : MissionValue) (L : Log) (n : ℕ) → IsMission M → (q : Channel) → q < 7 → (slot : Slot) →
+    on_bus slot ≡ true →
     is_joining (mode_in (cycle_at M L n) q slot) ≡ true → has (channels_of M) q ≡ true
 joins_within M L n mission q low slot on joins = by (nat_lt q M.rules.channels) refl
   where

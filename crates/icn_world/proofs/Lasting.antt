@@ -24,15 +24,24 @@ use Rattle.world_laws.proofs.SlotKept.{rounds_later}
 use Rattle.icn_world.proofs.ContentTaken.{taken_lasts}
 use Rattle.icn_world.specs.Restored.{HaveTaken}
 
-closed_same : (e x : Cycle) → x.joined ≡ e.joined → x.decision ≡ e.decision → x.remaining ≡ e.remaining → closed_of x ≡ closed_of e
+closed_same : (e x : Cycle) → x.joined ≡ e.joined → x.decision ≡ e.decision → x.remaining ≡ e.remaining →
+    closed_of x ≡ closed_of e
 closed_same e x j d r =
     let C : ChannelSet → Option TransferValue → List ℕ → ClosedValue =
-    λ joined t rest. record { joined = joined; start = if_joined joined (start_of t) 0; remaining = option_map (λ (y : TransferValue). length rest) t; rest = if_joined joined rest [] } in
-    ap (λ joined. C joined x.transfer x.remaining) j ∙ ap (λ (y : DecisionValue). C e.joined y.transfer x.remaining) d ∙ ap (C e.joined e.transfer) r
+    λ joined t rest. record {
+      joined = joined;
+      start = if_joined joined (start_of t) 0;
+      remaining = option_map (λ (y : TransferValue). length rest) t;
+      rest = if_joined joined rest [];
+    } in
+    ap (λ joined. C joined x.transfer x.remaining) j ∙ ap (λ (y : DecisionValue). C e.joined y.transfer x.remaining) d
+    ∙ ap (C e.joined e.transfer) r
 
 -- the world w goes on to the world x of the same cycle, by these entries
-module _ (earlier current new : Log) (steps : Steps) (slot last : Slot) (carried handed more given : ℕ) (w x : WorldValue) (mission : x.mission ≡ w.mission) (done : x.done ≡ w.done)
-    (was : InCycle w.mission earlier current steps slot carried handed w) (is : InCycle x.mission earlier (current ++ new) steps last more given x) where
+module _ (earlier current new : Log) (steps : Steps) (slot last : Slot) (carried handed more given : ℕ)
+    (w x : WorldValue) (mission : x.mission ≡ w.mission) (done : x.done ≡ w.done)
+    (was : InCycle w.mission earlier current steps slot carried handed w)
+    (is : InCycle x.mission earlier (current ++ new) steps last more given x) where
   abbrev M : MissionValue
   M = w.mission
 
@@ -40,22 +49,30 @@ module _ (earlier current new : Log) (steps : Steps) (slot last : Slot) (carried
   n = w.done
 
   late : AreFromPlace n carried new
-  late = follows M earlier current new steps steps slot last carried handed more given w x done was (subst (λ (m : MissionValue). InCycle m earlier (current ++ new) steps last more given x) mission is)
+  late = follows M earlier current new steps steps slot last carried handed more given w x done was
+      (subst (λ (m : MissionValue). InCycle m earlier (current ++ new) steps last more given x) mission is)
 
   -- what is true of the mission and the count of cycles
-  here : (F : MissionValue → Log → ℕ → Type 0) → F M ((earlier ++ current) ++ new) n → F x.mission (earlier ++ (current ++ new)) x.done
+  here : (F : MissionValue → Log → ℕ → Type 0) → F M ((earlier ++ current) ++ new) n →
+      F x.mission (earlier ++ (current ++ new)) x.done
   here F h =
       subst (λ (c : ℕ). F x.mission (earlier ++ (current ++ new)) c) (sym done)
-      (subst (λ (m : MissionValue). F m (earlier ++ (current ++ new)) n) (sym mission) (subst (λ (all : Log). F M all n) (append_assoc earlier current new) h))
+      (subst (λ (m : MissionValue). F m (earlier ++ (current ++ new)) n) (sym mission)
+      (subst (λ (all : Log). F M all n) (append_assoc earlier current new) h))
 
-  pub closed_later : 4 ≤ carried → (c : ClosedValue) → c ≡ closed_of (facts_in w (earlier ++ current)) → c ≡ closed_of (facts_in x (earlier ++ (current ++ new)))
+  pub closed_later : 4 ≤ carried → (c : ClosedValue) → c ≡ closed_of (facts_in w (earlier ++ current)) →
+      c ≡ closed_of (facts_in x (earlier ++ (current ++ new)))
   closed_later far c h =
       let stays = rounds_later M (earlier ++ current) new n carried late far in
       here (λ m all k. c ≡ closed_of (cycle_at m all k))
-      (h ∙ sym (closed_same (cycle_at M (earlier ++ current) n) (cycle_at M ((earlier ++ current) ++ new) n) stays.joined stays.decision stays.remaining))
+      (h ∙ sym (closed_same (cycle_at M (earlier ++ current) n) (cycle_at M ((earlier ++ current) ++ new) n)
+      stays.joined stays.decision stays.remaining))
 
   abbrev LastsBy : ChannelSet → MissionValue → Log → ℕ → Type 0
-  LastsBy taken m all k = (q : Channel) → q < 7 → is_joining (mode_in (cycle_at m all k) q Switch) ≡ true → has taken q ≡ is_some (content_taken m q (cycles_before m all k) (cycle_at m all k))
+  LastsBy taken m all k = (q : Channel) → q < 7 → is_joining (mode_in (cycle_at m all k) q Switch) ≡ true →
+      has taken q ≡ is_some (content_taken m q (cycles_before m all k) (cycle_at m all k))
 
-  pub taken_later : 8 ≤ carried → (taken : ChannelSet) → HaveTaken taken M (earlier ++ current) n steps → LastsBy taken x.mission (earlier ++ (current ++ new)) x.done
-  taken_later far taken have = here (LastsBy taken) (taken_lasts M (earlier ++ current) new n steps taken (weaken n 8 carried new far late) have)
+  pub taken_later : 8 ≤ carried → (taken : ChannelSet) → HaveTaken taken M (earlier ++ current) n steps →
+      LastsBy taken x.mission (earlier ++ (current ++ new)) x.done
+  taken_later far taken have =
+      here (LastsBy taken) (taken_lasts M (earlier ++ current) new n steps taken (weaken n 8 carried new far late) have)

@@ -46,14 +46,34 @@ all_zero [] h = refl
 all_zero (x ∷ xs) h = ap (λ k. k ∷ xs) h.0 ∙ ap (λ (l : List ℕ). 0 ∷ l) (all_zero xs h.1)
 
 -- a table that has 0 from a channel on
-table_end : (n : ℕ) → n ≤ 7 → (f : Channel → ℕ) → ((q : Channel) → n ≤ q → f q ≡ 0) → drop n (by_channel f) ≡ replicate (7 - n) 0
+table_end : (n : ℕ) → n ≤ 7 → (f : Channel → ℕ) → ((q : Channel) → n ≤ q → f q ≡ 0) →
+    drop n (by_channel f) ≡ replicate (7 - n) 0
 unfolding by_channel
-table_end zero low f h = all_zero (f 0 ∷ f 1 ∷ f 2 ∷ f 3 ∷ f 4 ∷ f 5 ∷ f 6 ∷ []) (h 0 (omega arith), (h 1 (omega arith), (h 2 (omega arith), (h 3 (omega arith), (h 4 (omega arith), (h 5 (omega arith), (h 6 (omega arith), tt)))))))
-table_end (suc zero) low f h = all_zero (f 1 ∷ f 2 ∷ f 3 ∷ f 4 ∷ f 5 ∷ f 6 ∷ []) (h 1 (omega arith), (h 2 (omega arith), (h 3 (omega arith), (h 4 (omega arith), (h 5 (omega arith), (h 6 (omega arith), tt))))))
-table_end (suc (suc zero)) low f h = all_zero (f 2 ∷ f 3 ∷ f 4 ∷ f 5 ∷ f 6 ∷ []) (h 2 (omega arith), (h 3 (omega arith), (h 4 (omega arith), (h 5 (omega arith), (h 6 (omega arith), tt)))))
-table_end (suc (suc (suc zero))) low f h = all_zero (f 3 ∷ f 4 ∷ f 5 ∷ f 6 ∷ []) (h 3 (omega arith), (h 4 (omega arith), (h 5 (omega arith), (h 6 (omega arith), tt))))
-table_end (suc (suc (suc (suc zero)))) low f h = all_zero (f 4 ∷ f 5 ∷ f 6 ∷ []) (h 4 (omega arith), (h 5 (omega arith), (h 6 (omega arith), tt)))
-table_end (suc (suc (suc (suc (suc zero))))) low f h = all_zero (f 5 ∷ f 6 ∷ []) (h 5 (omega arith), (h 6 (omega arith), tt))
+table_end zero low f h = all_zero (f 0 ∷ f 1 ∷ f 2 ∷ f 3 ∷ f 4 ∷ f 5 ∷ f 6 ∷ []) (
+  h 0 (omega arith),
+  (
+    h 1 (omega arith),
+    (h 2 (omega arith), (h 3 (omega arith), (h 4 (omega arith), (h 5 (omega arith), (h 6 (omega arith), tt))))),
+  ),
+)
+table_end (suc zero) low f h =
+    all_zero (f 1 ∷ f 2 ∷ f 3 ∷ f 4 ∷ f 5 ∷ f 6 ∷ []) (
+      h 1 (omega arith),
+      (
+        h 2 (omega arith),
+        (h 3 (omega arith), (h 4 (omega arith), (h 5 (omega arith), (h 6 (omega arith), tt)))),
+      ),
+    )
+table_end (suc (suc zero)) low f h =
+    all_zero (f 2 ∷ f 3 ∷ f 4 ∷ f 5 ∷ f 6 ∷ [])
+    (h 2 (omega arith), (h 3 (omega arith), (h 4 (omega arith), (h 5 (omega arith), (h 6 (omega arith), tt)))))
+table_end (suc (suc (suc zero))) low f h =
+    all_zero (f 3 ∷ f 4 ∷ f 5 ∷ f 6 ∷ [])
+    (h 3 (omega arith), (h 4 (omega arith), (h 5 (omega arith), (h 6 (omega arith), tt))))
+table_end (suc (suc (suc (suc zero)))) low f h =
+    all_zero (f 4 ∷ f 5 ∷ f 6 ∷ []) (h 4 (omega arith), (h 5 (omega arith), (h 6 (omega arith), tt)))
+table_end (suc (suc (suc (suc (suc zero))))) low f h =
+    all_zero (f 5 ∷ f 6 ∷ []) (h 5 (omega arith), (h 6 (omega arith), tt))
 table_end (suc (suc (suc (suc (suc (suc zero)))))) low f h = all_zero (f 6 ∷ []) (h 6 (omega arith), tt)
 table_end (suc (suc (suc (suc (suc (suc (suc zero))))))) low f h = refl
 table_end (suc (suc (suc (suc (suc (suc (suc (suc n)))))))) low f h = absurd (omega (arith, low))
@@ -64,11 +84,13 @@ zero_at : (b : Bool) (k : ℕ) → (b ≡ true → ⊥) → cond b k 0 ≡ 0
 zero_at true k h = absurd (h refl)
 zero_at false k h = refl
 
-one_more : (P : LineValue → Type 0) (line : Option LineValue) (rest : List LineValue) → IfSome line P → AllByRecursion P rest → AllByRecursion P (cons_option line rest)
+one_more : (P : LineValue → Type 0) (line : Option LineValue) (rest : List LineValue) → IfSome line P →
+    AllByRecursion P rest → AllByRecursion P (cons_option line rest)
 one_more P (Some l) rest h k = (h, k)
 one_more P None rest h k = k
 
-each_of : (P : LineValue → Type 0) (f : NodeValue → Option LineValue) (a : Channel → NodeValue) → ((q : Channel) → q < 7 → IfSome (f (a q)) P) →
+each_of : (P : LineValue → Type 0) (f : NodeValue → Option LineValue) (a : Channel → NodeValue) →
+    ((q : Channel) → q < 7 → IfSome (f (a q)) P) →
     (qs : ChannelSet) → list_all is_channel qs ≡ true → AllByRecursion P (filter_map f (map a qs))
 each_of P f a here [] low = tt
 each_of P f a here (q ∷ qs) low =
@@ -101,26 +123,34 @@ module _ (M : MissionValue) (L : Log) (n : ℕ) (steps : Steps) (mission : IsMis
       ap (λ (d : DecisionValue). drop M.rules.channels d.counts) (decision-is M L past)
       ∙ table_end M.rules.channels (channels_few M mission)
       (λ q. cond (has e.opening.active q)
-      (count_step M.rules.law M.rules.keep M.rules.decrement (has (judged_of e.opening.active e.agreed) q) (place_or e.opening.counts_before q 0)) 0)
+      (count_step M.rules.law M.rules.keep M.rules.decrement (has (judged_of e.opening.active e.agreed) q)
+      (place_or e.opening.counts_before q 0)) 0)
       (λ q high. zero_at (has e.opening.active q) _ (λ there.
       omega (arith, high, active_within M L n q (ap (λ (s : ChannelSet). has s q) (sym (active-is M L past)) ∙ there))))
 
-  padded : (q : Channel) (ballots : Ballots) → IsLinePadded M (whole_line q M.outputs (running_value_in M past e steps (stage_before Vote) q) (kept_of e.decision e.inputs) ballots)
+  padded : (q : Channel) (ballots : Ballots) →
+      IsLinePadded M (whole_line q M.outputs (running_value_in M past e steps (stage_before Vote) q)
+      (kept_of e.decision e.inputs) ballots)
   unfolding control_decided
   padded q ballots =
       let r : RunningValue = running_value_in M past e steps (stage_before Vote) q in
       record {
-        inputs = end_of M.width e.inputs (replicate (4 - length e.inputs) (pos 0)) wide ∙ ap (λ k. replicate (4 - k) (pos 0)) wide;
+        inputs = end_of M.width e.inputs (replicate (4 - length e.inputs) (pos 0)) wide
+            ∙ ap (λ k. replicate (4 - k) (pos 0)) wide;
         votes = end_of (length M.outputs) (voted_by q M.outputs ballots r) (replicate (8 - length M.outputs) None)
             (length-map (numbers_below (length M.outputs)) _ ∙ length-range_with_len 0 (length M.outputs));
         counts = counts_end;
       }
 
-  padded_at : (got : Bodies) (q : Channel) → q < 7 → IfSome (vote_line M got (node_in M L n steps Vote (stage_before Vote) q)) (IsLinePadded M)
+  padded_at : (got : Bodies) (q : Channel) → q < 7 →
+      IfSome (vote_line M got (node_in M L n steps Vote (stage_before Vote) q)) (IsLinePadded M)
   unfolding state_in
-  padded_at got q low = padded_by M got q (running_value_in M past e steps (stage_before Vote) q) (joiner_in M past e (stage_before Vote) q) (mode_in e q Vote) (padded q (ballots_arrived got q))
+  padded_at got q low = padded_by M got q (running_value_in M past e steps (stage_before Vote) q)
+      (joiner_in M past e (stage_before Vote) q) (mode_in e q Vote) (padded q (ballots_arrived got q))
 
-  pub all_padded : (got : Bodies) → AllByRecursion (IsLinePadded M) (filter_map (vote_line M got) (nodes_in M L n steps Vote (stage_before Vote)))
+  pub all_padded : (got : Bodies) →
+      AllByRecursion (IsLinePadded M) (filter_map (vote_line M got) (nodes_in M L n steps Vote (stage_before Vote)))
   all_padded got =
-      each_of (IsLinePadded M) (vote_line M got) (node_in M L n steps Vote (stage_before Vote)) (padded_at got) (channels_of M)
+      each_of (IsLinePadded M) (vote_line M got) (node_in M L n steps Vote (stage_before Vote)) (padded_at got)
+      (channels_of M)
       (set_parts (channels_of M) (active_is_set M [] mission)).0

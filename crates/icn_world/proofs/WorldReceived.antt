@@ -60,24 +60,36 @@ module _ (w : WorldValue) (earlier current : Log) (steps : Steps) (slot : Slot) 
 
   -- the test is that of the facts
   pub tested : nat_le round (tolerated_faults members + 1) ≡ is_round e (round_number slot)
-  tested = ap (λ (r : ℕ). nat_le r (tolerated_faults members + 1)) numbered ∙ ap (λ (s : ChannelSet). nat_le (round_number slot) (tolerated_faults s + 1)) active
+  tested = ap (λ (r : ℕ). nat_le r (tolerated_faults members + 1)) numbered
+      ∙ ap (λ (s : ChannelSet). nat_le (round_number slot) (tolerated_faults s + 1)) active
 
-  pub may_be_received : is_round e (round_number slot) ≡ true → All (MayReceive round members (received_through M past e round)) w.nodes
+  pub may_be_received : is_round e (round_number slot) ≡ true →
+      All (MayReceive round members (received_through M past e round)) w.nodes
   may_be_received there =
       subst (λ (r : ℕ). All (MayReceive r members (received_through M past e r)) w.nodes) (sym numbered)
-      (subst (λ (s : ChannelSet). All (MayReceive (round_number slot) s (received_through M past e (round_number slot))) w.nodes) (sym active)
-      (subst (λ (nodes : List NodeValue). All (MayReceive (round_number slot) e.active (received_through M past e (round_number slot))) nodes) (sym inside.nodes)
+      (subst (λ (s : ChannelSet).
+      All (MayReceive (round_number slot) s (received_through M past e (round_number slot))) w.nodes) (sym active)
+      (subst (λ (nodes : List NodeValue).
+      All (MayReceive (round_number slot) e.active (received_through M past e (round_number slot))) nodes)
+      (sym inside.nodes)
       (all_may_receive M (earlier ++ current) w.done steps inside.ranges slot some there)))
 
   pub nodes_are_received : (got : Bodies) (left : List NodeValue) → is_round e (round_number slot) ≡ true →
-      ((received : AllReceived) → All (MayReceive round members received) w.nodes → left ≡ map (with_exchanges round members got received) w.nodes) →
+      ((received : AllReceived) → All (MayReceive round members received) w.nodes →
+      left ≡ map (with_exchanges round members got received) w.nodes) →
       left ≡ nodes_received M (earlier ++ current) w.done (round_number slot) got w.nodes
   nodes_are_received got left there took =
       took (received_through M past e round) (may_be_received there)
       ∙ ap (λ (r : ℕ). map (with_exchanges r members got (received_through M past e r)) w.nodes) numbered
-      ∙ ap (λ (s : ChannelSet). map (with_exchanges (round_number slot) s got (received_through M past e (round_number slot))) w.nodes) active
-      ∙ where_true (is_round e (round_number slot)) (map (with_exchanges (round_number slot) e.active got (received_through M past e (round_number slot))) w.nodes) w.nodes there
+      ∙ ap (λ (s : ChannelSet).
+      map (with_exchanges (round_number slot) s got (received_through M past e (round_number slot))) w.nodes) active
+      ∙ where_true (is_round e (round_number slot))
+      (map (with_exchanges (round_number slot) e.active got (received_through M past e (round_number slot)))
+      w.nodes) w.nodes there
 
-  pub nothing_is_received : (got : Bodies) → is_round e (round_number slot) ≡ false → w.nodes ≡ nodes_received M (earlier ++ current) w.done (round_number slot) got w.nodes
+  pub nothing_is_received : (got : Bodies) → is_round e (round_number slot) ≡ false →
+      w.nodes ≡ nodes_received M (earlier ++ current) w.done (round_number slot) got w.nodes
   nothing_is_received got none =
-      where_false (is_round e (round_number slot)) (map (with_exchanges (round_number slot) e.active got (received_through M past e (round_number slot))) w.nodes) w.nodes none
+      where_false (is_round e (round_number slot))
+      (map (with_exchanges (round_number slot) e.active got (received_through M past e (round_number slot)))
+      w.nodes) w.nodes none

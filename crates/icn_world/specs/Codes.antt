@@ -19,7 +19,8 @@ coded_set = coded_list coded_ℕ
 
 abbrev pub coded_stop : Coded StopValue
 coded_stop =
-    code_by (ℕ × (Slot × (ChannelSet × ChannelSet))) (coded× coded_ℕ (coded× slot.the_row.coded (coded× coded_set coded_set)))
+    code_by (ℕ × (Slot × (ChannelSet × ChannelSet)))
+    (coded× coded_ℕ (coded× slot.the_row.coded (coded× coded_set coded_set)))
     (λ s. (s.cycle, (s.slot, (s.set, s.active))))
     (λ p. record { cycle = p.0; slot = p.1.0; set = p.1.1.0; active = p.1.1.1 })
     (λ _. refl)
@@ -33,17 +34,32 @@ halt_of (Some s) = disturbed s
 halt_of None = no_memory
 
 abbrev pub coded_halt : Coded HaltValue
-coded_halt = code_by (Option StopValue) (coded_option coded_stop) stop_or_none halt_of (elim [ disturbed s ↦ refl | no_memory ↦ refl ])
+coded_halt = code_by (Option StopValue) (coded_option coded_stop) stop_or_none halt_of
+    (elim [ disturbed s ↦ refl | no_memory ↦ refl ])
 
 abbrev pub coded_settled : Coded SettledValue
 coded_settled =
-    code_by (ℕ × (ChannelSet × ChannelSet)) (coded× coded_ℕ (coded× coded_set coded_set)) (λ s. (s.cycle, (s.active, s.disturbed)))
+    code_by (ℕ × (ChannelSet × ChannelSet)) (coded× coded_ℕ (coded× coded_set coded_set))
+    (λ s. (s.cycle, (s.active, s.disturbed)))
     (λ p. record { cycle = p.0; active = p.1.0; disturbed = p.1.1 }) (λ _. refl)
 
 abbrev pub coded_world : Coded WorldValue
 coded_world =
-    code_by (MissionValue × ((ℕ × ℕ) × (List NodeValue × (LedgerValue × (ChannelSet × (Option HaltValue × Option SettledValue))))))
-    (coded× coded_mission (coded× (coded× coded_ℕ coded_ℕ) (coded× nodes.the_row.coded (coded× ledger.the_row.coded (coded× coded_set (coded× (coded_option coded_halt) (coded_option coded_settled)))))))
+    code_by (MissionValue × ((ℕ × ℕ)
+    × (List NodeValue × (LedgerValue × (ChannelSet × (Option HaltValue × Option SettledValue))))))
+    (coded× coded_mission (coded× (coded× coded_ℕ coded_ℕ)
+    (coded× nodes.the_row.coded
+    (coded× ledger.the_row.coded
+    (coded× coded_set (coded× (coded_option coded_halt) (coded_option coded_settled)))))))
     (λ w. (w.mission, ((w.done, w.carried), (w.nodes, (w.ledger, (w.switches, (w.spent, w.settled)))))))
-    (λ p. record { mission = p.0; done = p.1.0.0; carried = p.1.0.1; nodes = p.1.1.0; ledger = p.1.1.1.0; switches = p.1.1.1.1.0; spent = p.1.1.1.1.1.0; settled = p.1.1.1.1.1.1 })
+    (λ p. record {
+      mission = p.0;
+      done = p.1.0.0;
+      carried = p.1.0.1;
+      nodes = p.1.1.0;
+      ledger = p.1.1.1.0;
+      switches = p.1.1.1.1.0;
+      spent = p.1.1.1.1.1.0;
+      settled = p.1.1.1.1.1.1;
+    })
     (λ _. refl)

@@ -18,8 +18,8 @@ abbrev pub keeping_halt : {A : Type 0} → Result A HaltValue → WorldValue →
 keeping_halt (Ok x) w = w
 keeping_halt (Err halt) w = record w { spent = Some halt }
 
--- The entries were carried, and the cycle ended as the answer says, once the world keeps its halt. Where memory ran out, none
--- were carried after a stop.
+-- The entries were carried, and the cycle ended as the answer says, once the world keeps its halt. Where memory ran
+-- out, none were carried after a stop.
 pub record Passes (may : List RuleValue → EntryValue → Type 0) (old : WorldValue) (L : Log) (bus : BusValue)
     (result : Result RecordValue HaltValue) (new : WorldValue) (bus_after : BusValue) : Type 0 where
   pub now : Log

@@ -27,35 +27,42 @@ sets_at M L n = by_channel (λ j. set_of (received_body M (cycle_at M L n).entri
 
 -- these have the joining channels of a slot that took a content, where so many slots are handed over, and no others
 abbrev pub HaveTaken : ChannelSet → MissionValue → Log → ℕ → Steps → Type 0
-HaveTaken taken M L n steps = (q : Channel) → q < 7 → TookContent taken (node_in M L n steps Final (stage_after Final) q)
+HaveTaken taken M L n steps = (q : Channel) → q < 7 →
+    TookContent taken (node_in M L n steps Final (stage_after Final) q)
 
 -- the vote is over, and the running transfer has these targets
-pub record MayRestore (targets : ChannelSet) (earlier current : Log) (steps : Steps) (w : WorldValue) (d : Disturbance) : Type 0 where
+pub record MayRestore (targets : ChannelSet) (earlier current : Log) (steps : Steps) (w : WorldValue)
+    (d : Disturbance) : Type 0 where
   pub stands : IsWithinCycle Vote (stage_after Vote) (stage_after Vote) earlier current steps w d
   pub targets_are : targets ≡ targets_of (facts_in w (earlier ++ current)).transfer
 
 -- the sweep slot is over, and the cycle is closed
-pub record HasClosed (closed : Closed) (earlier current : Log) (steps : Steps) (w : WorldValue) (d : Disturbance) : Type 0 where
+pub record HasClosed (closed : Closed) (earlier current : Log) (steps : Steps) (w : WorldValue) (d : Disturbance) : Type
+    0 where
   pub stands : IsWithinCycle Sweep (stage_after Sweep) (stage_after Sweep) earlier current steps w d
   pub closed_is : closed_value closed ≡ closed_of (facts_in w (earlier ++ current))
 
 -- the sweep slot is over, and these are declared joined
-pub record MayTakeContent (joined : ChannelSet) (earlier current : Log) (steps : Steps) (w : WorldValue) (d : Disturbance) : Type 0 where
+pub record MayTakeContent (joined : ChannelSet) (earlier current : Log) (steps : Steps) (w : WorldValue)
+    (d : Disturbance) : Type 0 where
   pub stands : IsWithinCycle Sweep (stage_after Sweep) (stage_after Sweep) earlier current steps w d
   pub joined_are : joined ≡ (facts_in w (earlier ++ current)).joined
 
 -- the final slot is over, and these took a content
-pub record IsTaken (taken : ChannelSet) (earlier current : Log) (steps : Steps) (w : WorldValue) (d : Disturbance) : Type 0 where
+pub record IsTaken (taken : ChannelSet) (earlier current : Log) (steps : Steps) (w : WorldValue)
+    (d : Disturbance) : Type 0 where
   pub stands : IsWithinCycle Final (stage_after Final) (stage_after Final) earlier current steps w d
   pub taken_are : HaveTaken taken w.mission (earlier ++ current) w.done steps
 
 -- the switch slot is over, and these sets were sent to the switchboard
-pub record IsSwitched (sent : List (Option ChannelSet)) (earlier current : Log) (steps : Steps) (w : WorldValue) (d : Disturbance) : Type 0 where
+pub record IsSwitched (sent : List (Option ChannelSet)) (earlier current : Log) (steps : Steps) (w : WorldValue)
+    (d : Disturbance) : Type 0 where
   pub stands : IsWithinCycle Switch (stage_after Switch) (stage_after Switch) earlier current steps w d
   pub sent_are : sent ≡ sets_at w.mission (earlier ++ current) w.done
 
 -- the three slots are over
-pub record IsRestored (r : SweepResult) (earlier current : Log) (steps : Steps) (w : WorldValue) (d : Disturbance) : Type 0 where
+pub record IsRestored (r : SweepResult) (earlier current : Log) (steps : Steps) (w : WorldValue)
+    (d : Disturbance) : Type 0 where
   pub stands : IsWithinCycle Switch (stage_after Switch) (stage_after Switch) earlier current steps w d
   pub joined_are : r.joined ≡ (facts_in w (earlier ++ current)).joined
   pub remaining_are : r.remaining ≡ remaining_in (facts_in w (earlier ++ current))

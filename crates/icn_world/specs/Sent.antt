@@ -21,10 +21,13 @@ received_in all slot w q = received_through w.mission (past_in w all) (facts_in 
 
 -- one entry for each frame that is sent in the slot, and for the first few of them
 abbrev pub AreAllSent : Log → Log → Slot → List ℕ → WorldValue → Log → Type 0
-AreAllSent earlier current slot to w new = AllZip IsEntryOf (all_sends w.mission w.done slot to (received_in (earlier ++ current) slot w) w.nodes) new
+AreAllSent earlier current slot to w new =
+    AllZip IsEntryOf (all_sends w.mission w.done slot to (received_in (earlier ++ current) slot w) w.nodes) new
 
 abbrev pub AreFewSentBy : Log → Log → Slot → List ℕ → ℕ → WorldValue → Log → Type 0
-AreFewSentBy earlier current slot to few w new = AllZip IsEntryOf (take few (all_sends w.mission w.done slot to (received_in (earlier ++ current) slot w) w.nodes)) new
+AreFewSentBy earlier current slot to few w new =
+    AllZip IsEntryOf (take few (all_sends w.mission w.done slot to (received_in (earlier ++ current) slot w) w.nodes))
+    new
 
 -- by the answer, the entries are those of all frames, and those of the traffic, or those of the first few
 abbrev pub AreSentBy : {E : Type 0} → Slot → List ℕ → Log → Result TrafficValue E → WorldValue → Log → Log → Type 0
@@ -33,9 +36,11 @@ AreSentBy slot to entries (Ok traffic) w earlier current =
 AreSentBy slot to entries (Err error) w earlier current = (few : ℕ) × AreFewSentBy earlier current slot to few w entries
 
 -- These entries were carried and counted.
-pub record HasSent {E : Type 0} (may : List RuleValue → EntryValue → Type 0) (slot : Slot) (to : List ℕ) (result : Result TrafficValue E)
+pub record HasSent {E : Type 0} (may : List RuleValue → EntryValue → Type 0) (slot : Slot) (to : List ℕ)
+    (result : Result TrafficValue E)
     (old new : WorldValue) (bus bus_after : BusValue) : Type 0 where
   pub entries : Log
   pub carries : Carries may bus bus_after entries
   pub world : new ≡ world_carried (length entries) old
-  pub sent : (earlier current : Log) (steps : Steps) (d : Disturbance) → MayCarry slot to earlier current steps old d → AreSentBy slot to entries result old earlier current
+  pub sent : (earlier current : Log) (steps : Steps) (d : Disturbance) → MayCarry slot to earlier current steps old d →
+      AreSentBy slot to entries result old earlier current

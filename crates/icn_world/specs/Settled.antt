@@ -18,7 +18,8 @@ use Rattle.icn_world.specs.declared.rounds.Reconfiguration.{Reconfiguration}
 use Rattle.icn_world.specs.Stages.{IsWithinCycle}
 
 -- the slots before are done, and this one may be entered
-pub record MayEnter (slot : Slot) (earlier current : Log) (steps : Steps) (w : WorldValue) (d : Disturbance) : Type 0 where
+pub record MayEnter (slot : Slot) (earlier current : Log) (steps : Steps) (w : WorldValue) (d : Disturbance) : Type
+    0 where
   pub before : Slot
   pub soon : up_to before slot ≡ true
   pub stands : IsWithinCycle before (stage_before slot) (stage_before slot) earlier current steps w d
@@ -31,7 +32,8 @@ IsToActive slot = (e : Cycle) → receivers e slot ≡ e.active
 abbrev pub nodes_received : MissionValue → Log → ℕ → ℕ → Bodies → List NodeValue → List NodeValue
 nodes_received M L n round got nodes =
     let e : Cycle = cycle_at M L n in
-    if is_round e round then map (with_exchanges round e.active got (received_through M (cycles_before M L n) e round)) nodes else nodes
+    if is_round e round then map (with_exchanges round e.active got (received_through M (cycles_before M L n) e round))
+    nodes else nodes
 
 -- by the facts of cycle n these channels are removed, and this is the transfer that runs
 pub record AreOfCycle (settled : Reconfiguration) (M : MissionValue) (L : Log) (n : ℕ) : Type 0 where
@@ -39,12 +41,14 @@ pub record AreOfCycle (settled : Reconfiguration) (M : MissionValue) (L : Log) (
   pub transfer : transfer_of_pair settled.transfer ≡ (cycle_at M L n).transfer
 
 -- the rounds are over, and the running channels have decided
-pub record IsDecided (settled : Reconfiguration) (earlier current : Log) (steps : Steps) (w : WorldValue) (d : Disturbance) : Type 0 where
+pub record IsDecided (settled : Reconfiguration) (earlier current : Log) (steps : Steps) (w : WorldValue)
+    (d : Disturbance) : Type 0 where
   pub stands : IsWithinCycle Round3 (stage_after Round3) (stage_after Round3) earlier current steps w d
   pub settled_are : AreOfCycle settled w.mission (earlier ++ current) w.done
 
 -- and the tasks slot is entered, whose work is next
-pub record IsSettled (settled : Reconfiguration) (earlier current : Log) (steps : Steps) (w : WorldValue) (d : Disturbance) : Type 0 where
+pub record IsSettled (settled : Reconfiguration) (earlier current : Log) (steps : Steps) (w : WorldValue)
+    (d : Disturbance) : Type 0 where
   pub stands : IsWithinCycle Tasks (stage_after Tasks) (stage_before Tasks) earlier current steps w d
   pub removed : settled.removed ≡ (facts_in w (earlier ++ current)).removed
   pub transfer : transfer_of_pair settled.transfer ≡ (facts_in w (earlier ++ current)).transfer

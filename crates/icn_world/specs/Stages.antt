@@ -24,12 +24,14 @@ use Rattle.guards_world.specs.Arrivals.{AreArrivals}
 use Rattle.world_traffic.specs.Reading.{got_of}
 use Rattle.fault_script.specs.declared.disturbance.Disturbance.{Disturbance}
 
--- The world within a cycle, as `InCycle` says. Where its tasks slot is handed over, the steps of all who worked are full. The
--- disturbance has the active channels, and charges just those of whom a piece was not delivered as sent. `earlier` has the entries of
--- the earlier cycles, and `current` those of this one.
-pub record IsWithinCycle (slot : Slot) (carried handed : ℕ) (earlier current : Log) (steps : Steps) (w : WorldValue) (d : Disturbance) : Type 0 where
+-- The world within a cycle, as `InCycle` says. Where its tasks slot is handed over, the steps of all who worked are
+-- full. The disturbance has the active channels, and charges just those of whom a piece was not delivered as sent.
+-- `earlier` has the entries of the earlier cycles, and `current` those of this one.
+pub record IsWithinCycle (slot : Slot) (carried handed : ℕ) (earlier current : Log) (steps : Steps) (w : WorldValue)
+    (d : Disturbance) : Type 0 where
   pub inside : InCycle w.mission earlier current steps slot carried handed w
-  pub full : slot_index Tasks < handed → AreFull w.mission (past_in w (earlier ++ current)) (facts_in w (earlier ++ current)) steps
+  pub full : slot_index Tasks < handed →
+      AreFull w.mission (past_in w (earlier ++ current)) (facts_in w (earlier ++ current)) steps
   pub active : d.active ≡ (facts_in w (earlier ++ current)).active
   pub charged : (q : Channel) → q < 7 → has d.charged q ≡ list_any (is_charge w.done Switch q) current
 
@@ -37,7 +39,8 @@ pub record IsWithinCycle (slot : Slot) (carried handed : ℕ) (earlier current :
 pub record HaltsIn (earlier current : Log) (steps : Steps) (stop : StopValue) (w : WorldValue) : Type 0 where
   pub stops : IsStopIn w.mission earlier current w.done steps stop.slot
   pub stop_is : stop_in w.done (facts_in w (earlier ++ current)) ≡ Some stop
-  pub full : slot_index Tasks < slot_index stop.slot → AreFull w.mission (past_in w (earlier ++ current)) (facts_in w (earlier ++ current)) steps
+  pub full : slot_index Tasks < slot_index stop.slot →
+      AreFull w.mission (past_in w (earlier ++ current)) (facts_in w (earlier ++ current)) steps
 
 -- what holds of the earlier entries, those of the cycle so far, the steps, the world and the disturbance
 abbrev pub Condition : Type 1
@@ -52,10 +55,11 @@ abbrev pub Reaches : {A : Type 0} → (A → Condition) → Result A Halt → Co
 Reaches Q (Ok x) earlier current steps w d = Q x earlier current steps w d
 Reaches Q (Err halt) earlier current steps w d = EndsCycle (halt_value halt) earlier current steps w
 
--- The part carried these entries. Whatever log, steps and entries so far the condition P held for, with the new entries Q
--- holds, the run stops, or what was carried is a front of the run's due entries.
+-- The part carried these entries. Whatever log, steps and entries so far the condition P held for, with the new entries
+-- Q holds, the run stops, or what was carried is a front of the run's due entries.
 pub record PassesPart {A : Type 0} (may : List RuleValue → EntryValue → Type 0) (P : Condition) (Q : A → Condition)
-    (result : Result A Halt) (old new : WorldValue) (before after : Disturbance) (bus bus_after : BusValue) : Type 0 where
+    (result : Result A Halt) (old new : WorldValue) (before after : Disturbance) (bus bus_after : BusValue) : Type
+    0 where
   pub entries : Log
   pub carries : Carries may bus bus_after entries
   pub mission : new.mission ≡ old.mission
@@ -76,12 +80,14 @@ pub record IsAtStart (earlier current : Log) (steps : Steps) (w : WorldValue) (d
   pub charged : d.charged ≡ []
 
 -- the world is in a slot that may be carried to these receivers
-pub record MayCarry (slot : Slot) (to : List ℕ) (earlier current : Log) (steps : Steps) (w : WorldValue) (d : Disturbance) : Type 0 where
+pub record MayCarry (slot : Slot) (to : List ℕ) (earlier current : Log) (steps : Steps) (w : WorldValue)
+    (d : Disturbance) : Type 0 where
   pub on : on_bus slot ≡ true
   pub stands : IsWithinCycle slot (stage_before slot) (stage_before slot) earlier current steps w d
   pub receivers_are : receivers (facts_in w (earlier ++ current)) slot ≡ to
 
 -- the slot was carried, and this arrived
-pub record HasArrived (slot : Slot) (arrived : ArrivedValue) (earlier current : Log) (steps : Steps) (w : WorldValue) (d : Disturbance) : Type 0 where
+pub record HasArrived (slot : Slot) (arrived : ArrivedValue) (earlier current : Log) (steps : Steps) (w : WorldValue)
+    (d : Disturbance) : Type 0 where
   pub stands : IsWithinCycle slot (stage_after slot) (stage_before slot) earlier current steps w d
   pub arrivals : AreArrivals w.mission (earlier ++ current) w.done slot (got_of arrived)

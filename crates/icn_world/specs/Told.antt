@@ -17,7 +17,8 @@ shown_of M line = shown_line M.rules.channels M.width (length M.outputs) line
 
 -- these are the lines of the channels that run in the slot, in order, and the places that no report shows are empty
 abbrev pub AreLinesOf : MissionValue → Cycle → Slot → List LineValue → Type 0
-AreLinesOf M e slot lines = (map (shown_of M) lines ≡ map (line_of M e) (channels_running_in slot e)) × AllByRecursion (IsLinePadded M) lines
+AreLinesOf M e slot lines = (map (shown_of M) lines ≡ map (line_of M e) (channels_running_in slot e))
+    × AllByRecursion (IsLinePadded M) lines
 
 -- the lines of the channels that are up
 abbrev pub of_channels_up : LedgerValue → List LineValue → List LineValue

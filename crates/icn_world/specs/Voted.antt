@@ -12,6 +12,7 @@ use Rattle.icn_world.specs.Stages.{IsWithinCycle}
 use Rattle.icn_world.specs.Told.{AreLinesOf}
 
 -- the vote slot is handed over, and these are the lines of the channels that run in it
-pub record HasVoted (lines : Seen LineValue) (earlier current : Log) (steps : Steps) (w : WorldValue) (d : Disturbance) : Type 0 where
+pub record HasVoted (lines : Seen LineValue) (earlier current : Log) (steps : Steps) (w : WorldValue)
+    (d : Disturbance) : Type 0 where
   pub stands : IsWithinCycle Vote (stage_after Vote) (stage_after Vote) earlier current steps w d
   pub lines_are : AreLinesOf w.mission (facts_in w (earlier ++ current)) Vote lines.items

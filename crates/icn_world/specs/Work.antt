@@ -10,9 +10,10 @@ use Rattle.guards_world.specs.Worlds.{WorldValue, past_in, facts_in}
 use Rattle.guards_world.specs.InCycle.{InCycle}
 use Rattle.guards_world.specs.WorldCycle.{AreFull}
 
--- The nodes hold what the facts say by these steps, which are full for each channel that works, and the rounds are those of
--- these channels, in order.
+-- The nodes hold what the facts say by these steps, which are full for each channel that works, and the rounds are
+-- those of these channels, in order.
 pub record HasDoneWork (made : Steps) (traces : List TraceValue) (earlier current : Log) (w : WorldValue) : Type 0 where
   pub inside : InCycle w.mission earlier current made Tasks (stage_after Tasks) (stage_after Tasks) w
   pub full : AreFull w.mission (past_in w (earlier ++ current)) (facts_in w (earlier ++ current)) made
-  pub traces_are : traces ≡ map (λ p. record { channel = p; steps = steps_of made p }) (channels_running_in Tasks (facts_in w (earlier ++ current)))
+  pub traces_are : traces ≡ map (λ p. record { channel = p; steps = steps_of made p })
+      (channels_running_in Tasks (facts_in w (earlier ++ current)))

@@ -58,7 +58,8 @@ impl World {
         slot: Slot,
         to: Receivers,
     ) -> Result<Traffic, AllocError>
-        requires { (earlier : Log) × (current : Log) × (steps : Steps) × (d : DisturbanceValue) × MayCarry slot (receiver_numbers to) earlier current steps self.old d }
+        requires { (earlier : Log) × (current : Log) × (steps : Steps) × (d : DisturbanceValue)
+            × MayCarry slot (receiver_numbers to) earlier current steps self.old d }
         ensures { HasSent B.may slot (receiver_numbers to) result self.old self.new
             (B.seen bus.old) (B.seen bus.new) }
     {
@@ -80,8 +81,10 @@ impl World {
         to: Receivers,
         disturbance: &mut Disturbance,
     ) -> Result<Delivered, Halt>
-        requires { (earlier : Log) × (current : Log) × (steps : Steps) × MayCarry slot (receiver_numbers to) earlier current steps self.old disturbance.old }
-        ensures { PassesPart B.may (MayCarry slot (receiver_numbers to)) (HasArrived slot) result self.old self.new disturbance.old disturbance.new
+        requires { (earlier : Log) × (current : Log) × (steps : Steps)
+            × MayCarry slot (receiver_numbers to) earlier current steps self.old disturbance.old }
+        ensures { PassesPart B.may (MayCarry slot (receiver_numbers to)) (HasArrived slot) result self.old self.new
+            disturbance.old disturbance.new
             (B.seen bus.old) (B.seen bus.new) }
     {
         let traffic = match self.send(alloc, bus, slot, to) {

@@ -60,10 +60,10 @@ impl World {
         self.spent = Some(*halt);
     }
 
-    /// Passes one cycle, in its nine slots: requests, rounds, tasks, vote, sweep and final frames, and the switches. Answers
-    /// the cycle's record. It stops at the end of the first slot in which a third of the active channels or more are
-    /// disturbed, or when memory runs out; the world is spent then, and each later call answers the same halt again and
-    /// carries nothing. Wherever memory runs out, nothing was carried after a slot that stops the run.
+    /// Passes one cycle, in its nine slots: requests, rounds, tasks, vote, sweep and final frames, and the switches.
+    /// Answers the cycle's record. It stops at the end of the first slot in which a third of the active channels or
+    /// more are disturbed, or when memory runs out; the world is spent then, and each later call answers the same halt
+    /// again and carries nothing. Wherever memory runs out, nothing was carried after a slot that stops the run.
     pub fn cycle<B: Bus, G: Gate, C: Calls + Sync, R: Threads + Wait + Sync>(
         &mut self,
         rt: &R,

@@ -11,11 +11,13 @@ use fault_script::Disturbance;
 use guards_base::Settled;
 
 impl World {
-    // Ends the cycle: the switchboard closes, the removed channels rest, those that took a content run, and the ledger and
-    // the count of cycles go on.
+    // Ends the cycle: the switchboard closes, the removed channels rest, those that took a content run, and the ledger
+    // and the count of cycles go on.
     pub(crate) fn end(&mut self, restored: &SweepResult, disturbance: &Disturbance)
-        requires { (earlier : Log) × (current : Log) × (steps : Steps) × IsRestored restored.now earlier current steps self.old disturbance.now }
-        ensures { (earlier current : Log) (steps : Steps) → IsRestored restored.now earlier current steps self.old disturbance.now →
+        requires { (earlier : Log) × (current : Log) × (steps : Steps)
+            × IsRestored restored.now earlier current steps self.old disturbance.now }
+        ensures { (earlier current : Log) (steps : Steps) →
+            IsRestored restored.now earlier current steps self.old disturbance.now →
             self.new ≡ world_after self.old.mission earlier current steps self.old.done self.old.carried }
     {
         let settled = Settled {

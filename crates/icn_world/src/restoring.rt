@@ -1,4 +1,5 @@
-//! The sweep slot, the final slot and the switch slot: what fills the joining channels and switches off the removed ones.
+//! The sweep slot, the final slot and the switch slot: what fills the joining channels and switches off the removed
+//! ones.
 ghost use Rattle.std.specs.Prelude.{◌≡◌, ◌++◌, OnOk, IfOk};
 ghost use Rattle.guards_model.specs.declared.Slot.TheVariants.{Sweep, Final};
 ghost use Rattle.guards_model.specs.Channels.{by_channel};
@@ -24,8 +25,8 @@ use slot_traffic::Receivers;
 use std::alloc::{AllocError, Global};
 use world_nodes::Arrived;
 
-// What the slots leave: who is declared joined, how many blocks remain, who took a content, and the set that each channel
-// sent to the switchboard.
+// What the slots leave: who is declared joined, how many blocks remain, who took a content, and the set that each
+// channel sent to the switchboard.
 #[derive(Clone, Copy)]
 pub(crate) struct SweepResult {
     pub(crate) joined: ChanSet,
@@ -57,16 +58,21 @@ fn sets_sent<A: Arrived>(arrived: &A) -> [Option<ChanSet>; 7]
 }
 
 impl World {
-    // Hands over the sweep slot: the joining channels take the copies, and the running ones close the cycle. Answers what
-    // the first of these answers.
+    // Hands over the sweep slot: the joining channels take the copies, and the running ones close the cycle. Answers
+    // what the first of these answers.
     fn close<A: Arrived>(&mut self, alloc: Global, arrived: &A) -> Result<Closed, AllocError>
-        requires { (earlier : Log) × (current : Log) × (steps : Steps) × InCycle self.old.mission earlier current steps Sweep (stage_after Sweep) (stage_before Sweep) self.old }
+        requires { (earlier : Log) × (current : Log) × (steps : Steps)
+            × InCycle self.old.mission earlier current steps Sweep (stage_after Sweep) (stage_before Sweep) self.old }
         ensures kept { IsWorldKept self.old self.new }
-        ensures state { (earlier current : Log) (steps : Steps) → InCycle self.old.mission earlier current steps Sweep (stage_after Sweep) (stage_before Sweep) self.old →
+        ensures state { (earlier current : Log) (steps : Steps) →
+            InCycle self.old.mission earlier current steps Sweep (stage_after Sweep) (stage_before Sweep) self.old →
             AreArrivals self.old.mission (earlier ++ current) self.old.done Sweep (A.got arrived.now) →
-            OnOk result (InCycle self.old.mission earlier current steps Sweep (stage_after Sweep) (stage_after Sweep) self.new) }
-        ensures closed { (earlier current : Log) (steps : Steps) → InCycle self.old.mission earlier current steps Sweep (stage_after Sweep) (stage_before Sweep) self.old →
-            IfOk result (λ closed. closed_value closed ≡ closed_of (cycle_at self.old.mission (earlier ++ current) self.old.done)) }
+            OnOk result (InCycle self.old.mission earlier current steps Sweep (stage_after Sweep) (stage_after Sweep)
+            self.new) }
+        ensures closed { (earlier current : Log) (steps : Steps) →
+            InCycle self.old.mission earlier current steps Sweep (stage_after Sweep) (stage_before Sweep) self.old →
+            IfOk result (λ closed. closed_value closed
+            ≡ closed_of (cycle_at self.old.mission (earlier ++ current) self.old.done)) }
     {
         let members = self.switchboard.on();
         self.nodes.take_sweep(alloc, self.done, members, arrived)?;
@@ -87,8 +93,10 @@ impl World {
         disturbance: &mut Disturbance,
         targets: ChanSet,
     ) -> Result<Closed, Halt>
-        requires { (earlier : Log) × (current : Log) × (steps : Steps) × MayRestore targets earlier current steps self.old disturbance.old }
-        ensures { PassesPart B.may (MayRestore targets) HasClosed result self.old self.new disturbance.old disturbance.new
+        requires { (earlier : Log) × (current : Log) × (steps : Steps)
+            × MayRestore targets earlier current steps self.old disturbance.old }
+        ensures { PassesPart B.may (MayRestore targets) HasClosed result self.old self.new disturbance.old
+            disturbance.new
             (B.seen bus.old) (B.seen bus.new) }
     {
         self.enter(Slot::Sweep);
@@ -106,8 +114,10 @@ impl World {
         disturbance: &mut Disturbance,
         joined: ChanSet,
     ) -> Result<ChanSet, Halt>
-        requires { (earlier : Log) × (current : Log) × (steps : Steps) × MayTakeContent joined earlier current steps self.old disturbance.old }
-        ensures { PassesPart B.may (MayTakeContent joined) IsTaken result self.old self.new disturbance.old disturbance.new
+        requires { (earlier : Log) × (current : Log) × (steps : Steps)
+            × MayTakeContent joined earlier current steps self.old disturbance.old }
+        ensures { PassesPart B.may (MayTakeContent joined) IsTaken result self.old self.new disturbance.old
+            disturbance.new
             (B.seen bus.old) (B.seen bus.new) }
     {
         self.enter(Slot::Final);
@@ -125,8 +135,11 @@ impl World {
         bus: &mut B,
         disturbance: &mut Disturbance,
     ) -> Result<[Option<ChanSet>; 7], Halt>
-        requires { (earlier : Log) × (current : Log) × (steps : Steps) × IsWithinCycle Final (stage_after Final) (stage_after Final) earlier current steps self.old disturbance.old }
-        ensures { PassesPart B.may (IsWithinCycle Final (stage_after Final) (stage_after Final)) IsSwitched result self.old self.new disturbance.old disturbance.new
+        requires { (earlier : Log) × (current : Log) × (steps : Steps)
+            × IsWithinCycle Final (stage_after Final) (stage_after Final) earlier current steps self.old
+            disturbance.old }
+        ensures { PassesPart B.may (IsWithinCycle Final (stage_after Final) (stage_after Final)) IsSwitched result
+            self.old self.new disturbance.old disturbance.new
             (B.seen bus.old) (B.seen bus.new) }
     {
         self.enter(Slot::Switch);
@@ -149,8 +162,10 @@ impl World {
         disturbance: &mut Disturbance,
         targets: ChanSet,
     ) -> Result<SweepResult, Halt>
-        requires { (earlier : Log) × (current : Log) × (steps : Steps) × MayRestore targets earlier current steps self.old disturbance.old }
-        ensures { PassesPart B.may (MayRestore targets) IsRestored result self.old self.new disturbance.old disturbance.new
+        requires { (earlier : Log) × (current : Log) × (steps : Steps)
+            × MayRestore targets earlier current steps self.old disturbance.old }
+        ensures { PassesPart B.may (MayRestore targets) IsRestored result self.old self.new disturbance.old
+            disturbance.new
             (B.seen bus.old) (B.seen bus.new) }
     {
         let closed = self.pass_sweep(alloc, bus, disturbance, targets)?;

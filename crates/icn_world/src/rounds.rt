@@ -46,8 +46,11 @@ impl World {
     ) -> Result<Delivered, Halt>
         requires on { on_bus slot ≡ true }
         requires among { IsToActive slot }
-        requires stands { (earlier : Log) × (current : Log) × (steps : Steps) × IsWithinCycle slot (stage_before slot) (stage_before slot) earlier current steps self.old disturbance.old }
-        ensures { PassesPart B.may (IsWithinCycle slot (stage_before slot) (stage_before slot)) (HasArrived slot) result self.old self.new disturbance.old disturbance.new
+        requires stands { (earlier : Log) × (current : Log) × (steps : Steps)
+            × IsWithinCycle slot (stage_before slot) (stage_before slot) earlier current steps self.old
+            disturbance.old }
+        ensures { PassesPart B.may (IsWithinCycle slot (stage_before slot) (stage_before slot)) (HasArrived slot) result
+            self.old self.new disturbance.old disturbance.new
             (B.seen bus.old) (B.seen bus.new) }
     {
         let members = self.switchboard.on();
@@ -64,8 +67,10 @@ impl World {
     ) -> Result<Delivered, Halt>
         requires on { on_bus slot ≡ true }
         requires among { IsToActive slot }
-        requires stands { (earlier : Log) × (current : Log) × (steps : Steps) × MayEnter slot earlier current steps self.old disturbance.old }
-        ensures { PassesPart B.may (MayEnter slot) (HasArrived slot) result self.old self.new disturbance.old disturbance.new
+        requires stands { (earlier : Log) × (current : Log) × (steps : Steps)
+            × MayEnter slot earlier current steps self.old disturbance.old }
+        ensures { PassesPart B.may (MayEnter slot) (HasArrived slot) result self.old self.new disturbance.old
+            disturbance.new
             (B.seen bus.old) (B.seen bus.new) }
     {
         self.enter(slot);
@@ -79,8 +84,10 @@ impl World {
         bus: &mut B,
         disturbance: &mut Disturbance,
     ) -> Result<(), Halt>
-        requires { (earlier : Log) × (current : Log) × (steps : Steps) × IsAtStart earlier current steps self.old disturbance.old }
-        ensures { PassesPart B.may IsAtStart (λ _. IsWithinCycle Request (stage_after Request) (stage_after Request)) result self.old self.new disturbance.old disturbance.new
+        requires { (earlier : Log) × (current : Log) × (steps : Steps)
+            × IsAtStart earlier current steps self.old disturbance.old }
+        ensures { PassesPart B.may IsAtStart (λ _. IsWithinCycle Request (stage_after Request) (stage_after Request))
+            result self.old self.new disturbance.old disturbance.new
             (B.seen bus.old) (B.seen bus.new) }
     {
         self.open(alloc)?;
@@ -92,12 +99,18 @@ impl World {
     // The running channels receive what arrived in the slot of a round, where there is such a round.
     fn receive(&mut self, arrived: &Delivered, slot: Slot)
         requires round { 1 ≤ round_number slot }
-        requires stands { (earlier : Log) × (current : Log) × (steps : Steps) × InCycle self.old.mission earlier current steps slot (stage_after slot) (stage_before slot) self.old
+        requires stands { (earlier : Log) × (current : Log) × (steps : Steps)
+            × InCycle self.old.mission earlier current steps slot (stage_after slot) (stage_before slot) self.old
             × AreArrivals self.old.mission (earlier ++ current) self.old.done slot (got_of arrived.now) }
         ensures kept { IsWorldKept self.old self.new }
-        ensures state { (earlier current : Log) (steps : Steps) → InCycle self.old.mission earlier current steps slot (stage_after slot) (stage_before slot) self.old →
+        ensures state { (earlier current : Log) (steps : Steps) →
+            InCycle self.old.mission earlier current steps slot (stage_after slot) (stage_before slot) self.old →
             AreArrivals self.old.mission (earlier ++ current) self.old.done slot (got_of arrived.now) →
-            self.new ≡ record self.old { nodes = nodes_received self.old.mission (earlier ++ current) self.old.done (round_number slot) (got_of arrived.now) self.old.nodes } }
+            self.new ≡ record self.old {
+              nodes =
+                  nodes_received self.old.mission (earlier ++ current) self.old.done (round_number slot)
+                  (got_of arrived.now) self.old.nodes;
+            } }
     {
         arrived.fits();
         let members = self.switchboard.on();
@@ -117,8 +130,10 @@ impl World {
     ) -> Result<(), Halt>
         requires low { 1 ≤ round_number slot }
         requires high { round_number slot ≤ 2 }
-        requires stands { (earlier : Log) × (current : Log) × (steps : Steps) × MayEnter slot earlier current steps self.old disturbance.old }
-        ensures { PassesPart B.may (MayEnter slot) (λ _. IsWithinCycle slot (stage_after slot) (stage_after slot)) result self.old self.new disturbance.old disturbance.new
+        requires stands { (earlier : Log) × (current : Log) × (steps : Steps)
+            × MayEnter slot earlier current steps self.old disturbance.old }
+        ensures { PassesPart B.may (MayEnter slot) (λ _. IsWithinCycle slot (stage_after slot) (stage_after slot))
+            result self.old self.new disturbance.old disturbance.new
             (B.seen bus.old) (B.seen bus.new) }
     {
         let arrived = self.pass_slot(alloc, bus, slot, disturbance)?;
@@ -128,13 +143,16 @@ impl World {
 
     // The running channels decide by what they received, in the last round too. Answers what the first of them settled.
     fn decide(&mut self, arrived: &Delivered) -> Reconfiguration
-        requires { (earlier : Log) × (current : Log) × (steps : Steps) × InCycle self.old.mission earlier current steps Round3 (stage_after Round3) (stage_before Round3) self.old
+        requires { (earlier : Log) × (current : Log) × (steps : Steps)
+            × InCycle self.old.mission earlier current steps Round3 (stage_after Round3) (stage_before Round3) self.old
             × AreArrivals self.old.mission (earlier ++ current) self.old.done Round3 (got_of arrived.now) }
         ensures kept { IsWorldKept self.old self.new }
-        ensures state { (earlier current : Log) (steps : Steps) → InCycle self.old.mission earlier current steps Round3 (stage_after Round3) (stage_before Round3) self.old →
+        ensures state { (earlier current : Log) (steps : Steps) →
+            InCycle self.old.mission earlier current steps Round3 (stage_after Round3) (stage_before Round3) self.old →
             AreArrivals self.old.mission (earlier ++ current) self.old.done Round3 (got_of arrived.now) →
             InCycle self.old.mission earlier current steps Round3 (stage_after Round3) (stage_after Round3) self.new }
-        ensures settled { (earlier current : Log) (steps : Steps) → InCycle self.old.mission earlier current steps Round3 (stage_after Round3) (stage_before Round3) self.old →
+        ensures settled { (earlier current : Log) (steps : Steps) →
+            InCycle self.old.mission earlier current steps Round3 (stage_after Round3) (stage_before Round3) self.old →
             AreArrivals self.old.mission (earlier ++ current) self.old.done Round3 (got_of arrived.now) →
             AreOfCycle result self.old.mission (earlier ++ current) self.old.done }
     {
@@ -153,7 +171,8 @@ impl World {
         bus: &mut B,
         disturbance: &mut Disturbance,
     ) -> Result<Reconfiguration, Halt>
-        requires { (earlier : Log) × (current : Log) × (steps : Steps) × MayEnter Round3 earlier current steps self.old disturbance.old }
+        requires { (earlier : Log) × (current : Log) × (steps : Steps)
+            × MayEnter Round3 earlier current steps self.old disturbance.old }
         ensures { PassesPart B.may (MayEnter Round3) IsDecided result self.old self.new disturbance.old disturbance.new
             (B.seen bus.old) (B.seen bus.new) }
     {
@@ -161,14 +180,16 @@ impl World {
         Ok(self.decide(&arrived))
     }
 
-    // The first part of a cycle: its opening, the requests, the rounds, the decision, and the tasks slot up to the work.
+    // The first part of a cycle: its opening, the requests, the rounds, the decision, and the tasks slot up to the
+    // work.
     pub(crate) fn settle<B: Bus>(
         &mut self,
         alloc: Global,
         bus: &mut B,
         disturbance: &mut Disturbance,
     ) -> Result<Reconfiguration, Halt>
-        requires { (earlier : Log) × (current : Log) × (steps : Steps) × IsAtStart earlier current steps self.old disturbance.old }
+        requires { (earlier : Log) × (current : Log) × (steps : Steps)
+            × IsAtStart earlier current steps self.old disturbance.old }
         ensures { PassesPart B.may IsAtStart IsSettled result self.old self.new disturbance.old disturbance.new
             (B.seen bus.old) (B.seen bus.new) }
     {

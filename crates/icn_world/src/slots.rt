@@ -28,7 +28,8 @@ impl World {
         requires unspent { self.old.spent ≡ None }
         ensures kept { IsWorldKept self.old self.new }
         ensures state { (L : Log) (steps : Steps) → StandsForWorld self.old L →
-            OnOk result (InCycle self.old.mission L [] steps Request (stage_before Request) (stage_before Request) self.new) }
+            OnOk result (InCycle self.old.mission L [] steps Request (stage_before Request) (stage_before Request)
+            self.new) }
     {
         let joining = self.ledger.start_cycle(self.mission.script(), self.done);
         self.nodes.open(alloc, &self.mission, self.done, joining)?;
@@ -42,7 +43,8 @@ impl World {
     // Enters a slot: its crashes.
     pub(crate) fn enter(&mut self, slot: Slot)
         ensures kept { IsWorldKept self.old self.new }
-        ensures state { (earlier current : Log) (steps : Steps) (before : SlotValue) (carried handed : ℕ) → up_to before slot ≡ true → on_bus slot ≡ true →
+        ensures state { (earlier current : Log) (steps : Steps) (before : SlotValue) (carried handed : ℕ) →
+            up_to before slot ≡ true → on_bus slot ≡ true →
             InCycle self.old.mission earlier current steps before carried handed self.old →
             InCycle self.old.mission earlier current steps slot carried handed self.new }
     {
@@ -55,9 +57,12 @@ impl World {
     // Hands over the request slot.
     pub(crate) fn hear<A: Arrived>(&mut self, arrived: &A)
         ensures kept { IsWorldKept self.old self.new }
-        ensures state { (earlier current : Log) (steps : Steps) → InCycle self.old.mission earlier current steps Request (stage_after Request) (stage_before Request) self.old →
+        ensures state { (earlier current : Log) (steps : Steps) →
+            InCycle self.old.mission earlier current steps Request (stage_after Request) (stage_before Request)
+            self.old →
             AreArrivals self.old.mission (earlier ++ current) self.old.done Request (A.got arrived.now) →
-            InCycle self.old.mission earlier current steps Request (stage_after Request) (stage_after Request) self.new }
+            InCycle self.old.mission earlier current steps Request (stage_after Request) (stage_after Request)
+            self.new }
     {
         self.nodes.hear(arrived);
     }
@@ -68,16 +73,21 @@ impl World {
         alloc: Global,
         arrived: &A,
     ) -> Result<Lines, AllocError>
-        requires { (earlier : Log) × (current : Log) × (steps : Steps) × InCycle self.old.mission earlier current steps Vote (stage_after Vote) (stage_before Vote) self.old }
+        requires { (earlier : Log) × (current : Log) × (steps : Steps)
+            × InCycle self.old.mission earlier current steps Vote (stage_after Vote) (stage_before Vote) self.old }
         ensures kept { IsWorldKept self.old self.new }
-        ensures state { (earlier current : Log) (steps : Steps) → InCycle self.old.mission earlier current steps Vote (stage_after Vote) (stage_before Vote) self.old →
+        ensures state { (earlier current : Log) (steps : Steps) →
+            InCycle self.old.mission earlier current steps Vote (stage_after Vote) (stage_before Vote) self.old →
             AreArrivals self.old.mission (earlier ++ current) self.old.done Vote (A.got arrived.now) →
             HaveWorked self.old.mission (earlier ++ current) self.old.done →
-            OnOk result (InCycle self.old.mission earlier current steps Vote (stage_after Vote) (stage_after Vote) self.new) }
-        ensures lines { (earlier current : Log) (steps : Steps) → InCycle self.old.mission earlier current steps Vote (stage_after Vote) (stage_before Vote) self.old →
+            OnOk result (InCycle self.old.mission earlier current steps Vote (stage_after Vote) (stage_after Vote)
+            self.new) }
+        ensures lines { (earlier current : Log) (steps : Steps) →
+            InCycle self.old.mission earlier current steps Vote (stage_after Vote) (stage_before Vote) self.old →
             AreArrivals self.old.mission (earlier ++ current) self.old.done Vote (A.got arrived.now) →
             HaveWorked self.old.mission (earlier ++ current) self.old.done →
-            IfOk result (λ lines. AreLinesOf self.old.mission (cycle_at self.old.mission (earlier ++ current) self.old.done) Vote lines.items) }
+            IfOk result (λ lines. AreLinesOf self.old.mission
+            (cycle_at self.old.mission (earlier ++ current) self.old.done) Vote lines.items) }
     {
         let lines = self.nodes.take_votes(alloc, &self.mission, arrived)?;
         Ok(lines)
@@ -91,10 +101,13 @@ impl World {
     ) -> Result<ChanSet, AllocError>
         requires { AreInRange (A.got arrived.now) }
         ensures kept { IsWorldKept self.old self.new }
-        ensures state { (earlier current : Log) (steps : Steps) → InCycle self.old.mission earlier current steps Final (stage_after Final) (stage_before Final) self.old →
+        ensures state { (earlier current : Log) (steps : Steps) →
+            InCycle self.old.mission earlier current steps Final (stage_after Final) (stage_before Final) self.old →
             AreArrivals self.old.mission (earlier ++ current) self.old.done Final (A.got arrived.now) →
-            OnOk result (InCycle self.old.mission earlier current steps Final (stage_after Final) (stage_after Final) self.new) }
-        ensures taken { (earlier current : Log) (steps : Steps) → InCycle self.old.mission earlier current steps Final (stage_after Final) (stage_before Final) self.old →
+            OnOk result (InCycle self.old.mission earlier current steps Final (stage_after Final) (stage_after Final)
+            self.new) }
+        ensures taken { (earlier current : Log) (steps : Steps) →
+            InCycle self.old.mission earlier current steps Final (stage_after Final) (stage_before Final) self.old →
             AreArrivals self.old.mission (earlier ++ current) self.old.done Final (A.got arrived.now) →
             IfOk result (λ taken. HaveTaken taken self.old.mission (earlier ++ current) self.old.done steps) }
     {

@@ -17,7 +17,8 @@ use std::sync::Wait;
 use std::thread::Threads;
 
 impl World {
-    // The work of the tasks slot: the running channels make their writes and copies. Answers the rounds of those that worked.
+    // The work of the tasks slot: the running channels make their writes and copies. Answers the rounds of those that
+    // worked.
     pub(crate) fn work<C: Calls + Sync, G: Gate, R: Threads + Wait + Sync>(
         &mut self,
         rt: &R,
@@ -25,10 +26,12 @@ impl World {
         gate: &G,
         natives: &C,
     ) -> Result<Traces, AllocError>
-        requires { (earlier : Log) × (current : Log) × (steps : Steps) × InCycle self.old.mission earlier current steps Tasks (stage_after Tasks) (stage_before Tasks) self.old }
+        requires { (earlier : Log) × (current : Log) × (steps : Steps)
+            × InCycle self.old.mission earlier current steps Tasks (stage_after Tasks) (stage_before Tasks) self.old }
         ensures kept { IsWorldKept self.old self.new }
         ensures worked { IfOk result (λ traces. (made : Steps) × ((earlier current : Log) (steps : Steps) →
-            InCycle self.old.mission earlier current steps Tasks (stage_after Tasks) (stage_before Tasks) self.old → HasDoneWork made traces.items earlier current self.new)) }
+            InCycle self.old.mission earlier current steps Tasks (stage_after Tasks) (stage_before Tasks) self.old →
+            HasDoneWork made traces.items earlier current self.new)) }
     {
         let traces = self
             .nodes

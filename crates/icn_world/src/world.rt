@@ -35,8 +35,8 @@ impl From<AllocError> for Halt {
     }
 }
 
-/// All nodes, of which there are as many as the mission has channels, the ledger and the switches. A spent world keeps its
-/// halt.
+/// All nodes, of which there are as many as the mission has channels, the ledger and the switches. A spent world keeps
+/// its halt.
 #[derive(Drop)]
 pub struct World {
     pub(crate) mission: Mission,

@@ -19,14 +19,17 @@ use Rattle.guards_runs.specs.IdealMachine.{sensed_at, sensed, sensed_word, ideal
 -- a channel has as many words as the mission's width
 pub sensor_length : (M : MissionValue) (p c : ℕ) → IsMission M → p < M.rules.channels → length (sensor M p c) ≡ M.width
 sensor_length M p c mission low =
-    eqb-true (length (sensor M p c)) M.width (both (length (sensor M p c) == M.width) (list_all is_word (sensor M p c)) (sensor_words M p c mission low)).0
+    eqb-true (length (sensor M p c)) M.width
+    (both (length (sensor M p c) == M.width) (list_all is_word (sensor M p c)) (sensor_words M p c mission low)).0
 
 -- a channel that is not below their number is not there
-pub passive_none : (M : MissionValue) (c q : ℕ) → q < 7 → has (numbers_below M.rules.channels) q ≡ false → place_or (sensed M c) q None ≡ None
+pub passive_none : (M : MissionValue) (c q : ℕ) → q < 7 → has (numbers_below M.rules.channels) q ≡ false →
+    place_or (sensed M c) q None ≡ None
 passive_none M c q low absent = at-by_channel (sensed_at M c) q None low ∙ by (nat_lt q M.rules.channels) refl
   where
     by : (b : Bool) → nat_lt q M.rules.channels ≡ b → cond b (Some (sensed_word M c q)) None ≡ None
-    by true there = absurd (differ (sym absent ∙ below_there M.rules.channels q (leb-true (suc q) M.rules.channels there)))
+    by true there = absurd (differ
+        (sym absent ∙ below_there M.rules.channels q (leb-true (suc q) M.rules.channels there)))
       where
         differ : false ≡ true → ⊥
         differ h = cc
@@ -41,10 +44,12 @@ module _ (words : List ℤ) (width : ℕ) (long : length words ≡ width) where
   pub is_padded : 1 ≤ width → width ≤ 4 → IsPadded 4 width (padded 4 words)
   is_padded some few =
       record {
-        whole = length-append words (replicate (4 - length words) (pos 0)) ∙ ap (λ n. length words + n) (length-replicate (4 - length words) (pos 0)) ∙ omega (arith, long, few);
+        whole = length-append words (replicate (4 - length words) (pos 0))
+            ∙ ap (λ n. length words + n) (length-replicate (4 - length words) (pos 0)) ∙ omega (arith, long, few);
         least = some;
         most = few;
-        unused = ap (λ n. drop n (padded 4 words)) (sym long) ∙ drop-append_seam words (replicate (4 - length words) (pos 0)) ∙ ap (λ n. replicate (4 - n) (pos 0)) long;
+        unused = ap (λ n. drop n (padded 4 words)) (sym long)
+            ∙ drop-append_seam words (replicate (4 - length words) (pos 0)) ∙ ap (λ n. replicate (4 - n) (pos 0)) long;
       }
 
 pub inputs_length : (M : MissionValue) (c : ℕ) → length (ideal_inputs M c) ≡ M.width

@@ -37,7 +37,8 @@ fn lines_of(
 ) -> Result<Lines, AllocError>
     requires { channels ≤ 7 }
     ensures { IfOk result (λ lines. (width : ℕ) →
-        map (shown_line channels width (length ballot.now)) lines.items ≡ map (ideal_line channels (take width inputs) ballot.now) (numbers_below channels)) }
+        map (shown_line channels width (length ballot.now)) lines.items
+        ≡ map (ideal_line channels (take width inputs) ballot.now) (numbers_below channels)) }
 {
     let mut lines = Lines::new(alloc);
     for number in 0..channels {

@@ -132,7 +132,8 @@ impl Replica {
     /// no memory. Every frame that was read has counts within their cap.
     pub fn take_final(&mut self, frames: &Finals) -> Option<Control>
         requires capped { list_all (λ content. counts_in_range content.control.counts) frames.now.items ≡ true }
-        ensures control { result ≡ option_map (λ content. control_of_word content.control) (final_taken frames.now.items self.old) }
+        ensures control { result ≡ option_map (λ content. control_of_word content.control)
+            (final_taken frames.now.items self.old) }
         ensures replica { self.new ≡ after_final frames.now.items self.old }
     {
         match self.take_content(frames.as_slice()) {

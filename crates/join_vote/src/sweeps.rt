@@ -48,7 +48,8 @@ pub fn most_start(frames: &[SweepBody]) -> Option<u32>
 
 /// The words of the first copy of a block.
 fn copy_of(copies: &[BlockCopy], block: u8) -> Option<&Block>
-    ensures { option_map (λ b. b.words) (option_copied result) ≡ option_map (λ copy. copy.words) (find (λ copy. copy.block == block) copies.now) }
+    ensures { option_map (λ b. b.words) (option_copied result)
+        ≡ option_map (λ copy. copy.words) (find (λ copy. copy.block == block) copies.now) }
 {
     match copies {
         [] => None,
@@ -82,7 +83,8 @@ pub fn same_block(a: &Block, b: &Block) -> bool
 
 /// How many frames of this start have these words for a block.
 fn with_words(frames: &[SweepBody], start: u32, block: u8, words: &Block) -> usize
-    ensures count { result ≡ count_by (same_words words.now.words) (filter_map (block_in_frame start block) frames.now) }
+    ensures count { result ≡ count_by (same_words words.now.words)
+        (filter_map (block_in_frame start block) frames.now) }
     ensures within { result ≤ length frames.now }
 {
     match frames {
@@ -105,7 +107,10 @@ fn with_words(frames: &[SweepBody], start: u32, block: u8, words: &Block) -> usi
 
 /// The first words of a block in the rest of the frames that strictly more than half of all have.
 pub fn most_words(frames: &[SweepBody], rest: &[SweepBody], start: u32, block: u8) -> Option<Block>
-    ensures { option_map (λ b. b.words) result ≡ find (λ v. nat_lt (length frames.now) (2 * count_by (same_words v) (filter_map (block_in_frame start block) frames.now))) (filter_map (block_in_frame start block) rest.now) }
+    ensures { option_map (λ b. b.words) result
+        ≡ find (λ v. nat_lt (length frames.now)
+        (2 * count_by (same_words v) (filter_map (block_in_frame start block) frames.now)))
+        (filter_map (block_in_frame start block) rest.now) }
 {
     match rest {
         [] => None,

@@ -19,8 +19,8 @@ struct Shape {
     set: bool,
 }
 
-/// So many tasks, of which the first and the others have these shapes, and so many rows that name the first task so many
-/// times; with two blocks.
+/// So many tasks, of which the first and the others have these shapes, and so many rows that name the first task so
+/// many times; with two blocks.
 #[derive(Drop)]
 struct Case {
     tasks: usize,

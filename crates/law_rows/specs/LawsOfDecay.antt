@@ -7,4 +7,7 @@ use Rattle.law_rows.specs.GoneInTime as row
 -- whose threshold takes two judgements
 abbrev pub decaying : Law → ℕ → ℕ → MissionValue
 decaying law keep decrement =
-    record row.mission { rules = record row.mission.rules { version = 2; law = law; keep = keep; decrement = decrement } }
+    record row.mission {
+      rules =
+          record row.mission.rules { version = 2; law = law; keep = keep; decrement = decrement };
+    }

@@ -48,7 +48,8 @@ pub fn silent_sender()
 pub fn down_at_the_end()
     ensures silent { in_a_row is_silent 4 (past_of down_at_the_end_row.run 8) ≡ 2 }
     ensures judged { in_a_row is_judged 4 (past_of down_at_the_end_row.run 8) ≡ 2 }
-    ensures from_none { count_before_row is_silent 4 down_at_the_end_row.mission (past_of down_at_the_end_row.run 8) ≡ 0 }
+    ensures from_none { count_before_row is_silent 4 down_at_the_end_row.mission (past_of down_at_the_end_row.run 8)
+        ≡ 0 }
 {}
 
 /// One disturbed cycle costs a channel two judgements: in cycle 0 its word is lost, and its vote, which is judged in

@@ -19,19 +19,25 @@ range_more n = rw add-one (by_length 0 n) ∙ ap (λ k. numbers_below n ++ k ∷
 
 module _ {L : Type 0} (old now next : List L) where
   -- one more number
-  pub number_more : (f : ℕ → List L) (n : ℕ) → now ≡ old ++ flat_map f (numbers_below n) → next ≡ now ++ f n → next ≡ old ++ flat_map f (numbers_below (n + 1))
+  pub number_more : (f : ℕ → List L) (n : ℕ) → now ≡ old ++ flat_map f (numbers_below n) → next ≡ now ++ f n →
+      next ≡ old ++ flat_map f (numbers_below (n + 1))
   number_more f n before this =
-      this ∙ ap (λ (ls : List L). ls ++ f n) before ∙ flat_map_more f old (numbers_below n) n ∙ ap (λ (ns : List ℕ). old ++ flat_map f ns) (sym (range_more n))
+      this ∙ ap (λ (ls : List L). ls ++ f n) before ∙ flat_map_more f old (numbers_below n) n
+      ∙ ap (λ (ns : List ℕ). old ++ flat_map f ns) (sym (range_more n))
 
   -- one more element of a list
-  pub element_more : {A : Type 0} (f : A → List L) (xs : List A) (at : ℕ) (d : A) → at < length xs → now ≡ old ++ flat_map f (take at xs) → next ≡ now ++ f (get_or xs at d) →
+  pub element_more : {A : Type 0} (f : A → List L) (xs : List A) (at : ℕ) (d : A) → at < length xs →
+      now ≡ old ++ flat_map f (take at xs) → next ≡ now ++ f (get_or xs at d) →
       next ≡ old ++ flat_map f (take (at + 1) xs)
   element_more {A} f xs at d low before this =
-      this ∙ ap (λ (ls : List L). ls ++ f (get_or xs at d)) before ∙ flat_map_more f old (take at xs) (get_or xs at d) ∙ ap (λ (ys : List A). old ++ flat_map f ys) (sym (take_more xs at d low))
+      this ∙ ap (λ (ls : List L). ls ++ f (get_or xs at d)) before ∙ flat_map_more f old (take at xs) (get_or xs at d)
+      ∙ ap (λ (ys : List A). old ++ flat_map f ys) (sym (take_more xs at d low))
 
   -- one more element by its place
-  pub place_more : {A : Type 0} (f : ℕ → A → List L) (xs : List A) (at : ℕ) (d : A) → at < length xs → length (take at xs) ≡ at →
-      now ≡ old ++ lists_from f 0 (take at xs) → next ≡ now ++ f at (get_or xs at d) → next ≡ old ++ lists_from f 0 (take (at + 1) xs)
+  pub place_more : {A : Type 0} (f : ℕ → A → List L) (xs : List A) (at : ℕ) (d : A) → at < length xs →
+      length (take at xs) ≡ at →
+      now ≡ old ++ lists_from f 0 (take at xs) → next ≡ now ++ f at (get_or xs at d) →
+      next ≡ old ++ lists_from f 0 (take (at + 1) xs)
   place_more {A} f xs at d low short before this =
       this
       ∙ ap (λ (ls : List L). ls ++ f at (get_or xs at d)) before
@@ -49,7 +55,8 @@ module _ {L : Type 0} (old now next : List L) where
           ∙ ap (λ (ls : List L). lists_from f 0 (take at xs) ++ ls) (append-nil (f at (get_or xs at d)))
 
 -- one more number that passes or not
-pub count_more : (p : ℕ → Bool) (n count one : ℕ) → count ≡ length (filter p (numbers_below n)) → one ≡ cond (p n) 1 0 → count + one ≡ length (filter p (numbers_below (n + 1)))
+pub count_more : (p : ℕ → Bool) (n count one : ℕ) → count ≡ length (filter p (numbers_below n)) → one ≡ cond (p n) 1 0 →
+    count + one ≡ length (filter p (numbers_below (n + 1)))
 count_more p n count one before this =
     ap (λ k. k + one) before
     ∙ ap (λ k. length (filter p (numbers_below n)) + k) (this ∙ by (p n) refl)
@@ -60,22 +67,27 @@ count_more p n count one before this =
     by true e = ap (λ b. cond b 1 0) e ∙ sym (ap (λ b. length (cond b (n ∷ []) [])) e)
     by false e = ap (λ b. cond b 1 0) e ∙ sym (ap (λ b. length (cond b (n ∷ []) [])) e)
 
-range_alike : {L : Type 0} (f g : ℕ → List L) (a n : ℕ) → ((k : ℕ) → k < a + n → f k ≡ g k) → flat_map f (range_with_len a n) ≡ flat_map g (range_with_len a n)
+range_alike : {L : Type 0} (f g : ℕ → List L) (a n : ℕ) → ((k : ℕ) → k < a + n → f k ≡ g k) →
+    flat_map f (range_with_len a n) ≡ flat_map g (range_with_len a n)
 range_alike f g a zero same = refl
 range_alike {L} f g a (suc n) same =
     ap (λ (ls : List L). ls ++ flat_map f (range_with_len (a + 1) n)) (same a (omega arith))
     ∙ ap (λ (ls : List L). g a ++ ls) (range_alike f g (a + 1) n (λ k low. same k (omega (arith, low))))
 
 -- lines that agree on the numbers below n
-pub numbers_alike : {L : Type 0} (f g : ℕ → List L) (n : ℕ) → ((k : ℕ) → k < n → f k ≡ g k) → flat_map f (numbers_below n) ≡ flat_map g (numbers_below n)
+pub numbers_alike : {L : Type 0} (f g : ℕ → List L) (n : ℕ) → ((k : ℕ) → k < n → f k ≡ g k) →
+    flat_map f (numbers_below n) ≡ flat_map g (numbers_below n)
 numbers_alike f g n same = range_alike f g 0 n (λ k low. same k (omega (arith, low)))
 
 -- lists that are appended, one after the other
-pub three_appended : {L : Type 0} (old a b d l1 l2 l3 : List L) → l1 ≡ old ++ a → l2 ≡ l1 ++ b → l3 ≡ l2 ++ d → l3 ≡ old ++ (a ++ (b ++ d))
+pub three_appended : {L : Type 0} (old a b d l1 l2 l3 : List L) → l1 ≡ old ++ a → l2 ≡ l1 ++ b → l3 ≡ l2 ++ d →
+    l3 ≡ old ++ (a ++ (b ++ d))
 three_appended {L} old a b d l1 l2 l3 first second third =
     third ∙ ap (λ (l : List L). l ++ d) (second ∙ ap (λ (l : List L). l ++ b) first)
     ∙ append_assoc (old ++ a) b d ∙ append_assoc old a (b ++ d)
 
-pub four_appended : {L : Type 0} (old a b d e l1 l2 l3 l4 : List L) → l1 ≡ old ++ a → l2 ≡ l1 ++ b → l3 ≡ l2 ++ d → l4 ≡ l3 ++ e → l4 ≡ old ++ (a ++ (b ++ (d ++ e)))
+pub four_appended : {L : Type 0} (old a b d e l1 l2 l3 l4 : List L) → l1 ≡ old ++ a → l2 ≡ l1 ++ b → l3 ≡ l2 ++ d →
+    l4 ≡ l3 ++ e → l4 ≡ old ++ (a ++ (b ++ (d ++ e)))
 four_appended {L} old a b d e l1 l2 l3 l4 first second third fourth =
-    three_appended old a b (d ++ e) l1 l2 l4 first second (fourth ∙ ap (λ (l : List L). l ++ e) third ∙ append_assoc l2 d e)
+    three_appended old a b (d ++ e) l1 l2 l4 first second
+    (fourth ∙ ap (λ (l : List L). l ++ e) third ∙ append_assoc l2 d e)

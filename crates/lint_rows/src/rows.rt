@@ -1,7 +1,7 @@
 //! Missions, and what is written of them.
 
-/// Rows with a line `====` between them: a mission, a line `----`, and the status and the lines that are wanted. Each kind of
-/// line stands in one of them, and is missing in another.
+/// Rows with a line `====` between them: a mission, a line `----`, and the status and the lines that are wanted. Each
+/// kind of line stands in one of them, and is missing in another.
 pub const ROWS: &str = "outputs = [\"b0.0\"]
 table = [[\"t\"]]
 sensors = [[[1], [1], [1], [1]]]

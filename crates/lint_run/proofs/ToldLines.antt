@@ -19,12 +19,14 @@ use Rattle.mission_text.specs.Mission.{mission_of}
 
 -- ---- words
 
-pub none_words : {A : Type 0} (words : List A) (src src' : SourceView) (out out' : SinkView) (status : LintStatus) → length words ≡ 0 →
+pub none_words : {A : Type 0} (words : List A) (src src' : SourceView) (out out' : SinkView) (status : LintStatus) →
+    length words ≡ 0 →
     LintsBytes src src' out out' status → LintOutcome words src src' out out' status
 none_words [] src src' out out' status none does = does
 none_words (word ∷ words) src src' out out' status none does = absurd (omega (arith, none))
 
-pub some_words : {A : Type 0} (words : List A) (src src' : SourceView) (out out' : SinkView) (status : LintStatus) → (length words ≡ 0 → ⊥) →
+pub some_words : {A : Type 0} (words : List A) (src src' : SourceView) (out out' : SinkView) (status : LintStatus) →
+    (length words ≡ 0 → ⊥) →
     RefusesWords src src' out out' status → LintOutcome words src src' out out' status
 some_words [] src src' out out' status some does = absurd (some refl)
 some_words (word ∷ words) src src' out out' status some does = does
@@ -38,26 +40,37 @@ stop_ends : (status : Status) → (status ≡ Done → ⊥) → (status ≡ Done
 stop_ends status not_done (inl done) = absurd (not_done done)
 stop_ends status not_done (inr e) = inr (inr (ap Stopped e))
 
-refusal_ends : (src src' : SourceView) (out out' : SinkView) (status : LintStatus) (bytes : List ℕ) (M : MissionValue) → RefusesWith src src' out out' status →
-    src.left ≡ Some bytes → length bytes ≤ MAX_MISSION_BYTES → mission_of bytes ≡ Ok M → (Rose src.faults src'.faults → ⊥) → Ends status
+refusal_ends : (src src' : SourceView) (out out' : SinkView) (status : LintStatus) (bytes : List ℕ) (M : MissionValue) →
+    RefusesWith src src' out out' status →
+    src.left ≡ Some bytes → length bytes ≤ MAX_MISSION_BYTES → mission_of bytes ≡ Ok M →
+    (Rose src.faults src'.faults → ⊥) → Ends status
 refusal_ends src src' out out' Clean bytes M refused told within is no_read = absurd refused
 refusal_ends src src' out out' Warned bytes M refused told within is no_read = absurd refused
 refusal_ends src src' out out' (Stopped status) bytes M refused told within is no_read =
-    stop_ends status (λ done. subst (λ s. RefusesBytes src src' out out' s) done refused) (refused_for_memory src src' out out' status bytes M refused told within is no_read)
+    stop_ends status (λ done. subst (λ s. RefusesBytes src src' out out' s) done refused)
+    (refused_for_memory src src' out out' status bytes M refused told within is no_read)
 
-lines_end : (text : TextValue) (warned : Bool) (out out' : SinkView) (status : LintStatus) → TellsLines text warned out out' status → (Rose out.faults out'.faults → ⊥) → Ends status
+lines_end : (text : TextValue) (warned : Bool) (out out' : SinkView) (status : LintStatus) →
+    TellsLines text warned out out' status → (Rose out.faults out'.faults → ⊥) → Ends status
 lines_end text warned out out' Clean told no_write = inl refl
 lines_end text warned out out' Warned told no_write = inr (inl refl)
 lines_end text warned out out' (Stopped status) told no_write =
     stop_ends status (λ done. subst IsStop done told.0) (told_to_end text out out' status told.1 no_write)
 
-bytes_end : (src src' : SourceView) (out out' : SinkView) (status : LintStatus) (bytes : List ℕ) (M : MissionValue) → LintsBytes src src' out out' status →
-    src.left ≡ Some bytes → length bytes ≤ MAX_MISSION_BYTES → mission_of bytes ≡ Ok M → (Rose src.faults src'.faults → ⊥) → (Rose out.faults out'.faults → ⊥) → Ends status
-bytes_end src src' out out' status bytes M (inl refused) told within is no_read no_write = refusal_ends src src' out out' status bytes M refused told within is no_read
+bytes_end : (src src' : SourceView) (out out' : SinkView) (status : LintStatus) (bytes : List ℕ) (M : MissionValue) →
+    LintsBytes src src' out out' status →
+    src.left ≡ Some bytes → length bytes ≤ MAX_MISSION_BYTES → mission_of bytes ≡ Ok M →
+    (Rose src.faults src'.faults → ⊥) → (Rose out.faults out'.faults → ⊥) → Ends status
+bytes_end src src' out out' status bytes M (inl refused) told within is no_read no_write =
+    refusal_ends src src' out out' status bytes M refused told within is no_read
 bytes_end src src' out out' status bytes M (inr went) told within is no_read no_write =
     lines_end (lint_text (lint_of went.1)) (warns (lint_of went.1)) out out' status went.4 no_write
 
-pub lint_completes : {A : Type 0} (words : List A) (src src' : SourceView) (out out' : SinkView) (status : LintStatus) → LintOutcome words src src' out out' status →
+pub lint_completes : {A : Type 0} (words : List A) (src src' : SourceView) (out out' : SinkView) (status : LintStatus) →
+    LintOutcome words src src' out out' status →
     LintCompletes words src src' out out' status
-lint_completes [] src src' out out' status does = λ bytes M none told within is no_read no_write. bytes_end src src' out out' status bytes M does told within is no_read no_write
-lint_completes (word ∷ words) src src' out out' status does = λ bytes M none told within is no_read no_write. absurd (omega (arith, ap length none))
+lint_completes [] src src' out out' status does =
+    λ bytes M none told within is no_read no_write.
+    bytes_end src src' out out' status bytes M does told within is no_read no_write
+lint_completes (word ∷ words) src src' out out' status does =
+    λ bytes M none told within is no_read no_write. absurd (omega (arith, ap length none))

@@ -55,7 +55,10 @@ impl Score {
     #[tactic(auto, using(ctx_lock::proofs::Histories::length_times, ctx_lock::proofs::Histories::times_push))]
     fn task(&mut self) -> bool
         ensures due { (self.new.task_due ≡ self.old.task_due) × (self.new.sweep_due ≡ self.old.sweep_due) }
-        ensures stepped { MatchBool result ((self.new.history.items ≡ self.old.history.items ++ Task ∷ []) × (times Task self.old.history.items < self.old.task_due)) ((self.new ≡ self.old) × (self.old.task_due ≤ times Task self.old.history.items)) }
+        ensures stepped { MatchBool result
+            ((self.new.history.items ≡ self.old.history.items ++ Task ∷ [])
+            × (times Task self.old.history.items < self.old.task_due))
+            ((self.new ≡ self.old) × (self.old.task_due ≤ times Task self.old.history.items)) }
     {
         if self.tasks >= self.task_due {
             return false;
@@ -68,7 +71,10 @@ impl Score {
     #[tactic(auto, using(ctx_lock::proofs::Histories::length_times, ctx_lock::proofs::Histories::times_push))]
     fn sweep(&mut self) -> bool
         ensures due { (self.new.task_due ≡ self.old.task_due) × (self.new.sweep_due ≡ self.old.sweep_due) }
-        ensures stepped { MatchBool result ((self.new.history.items ≡ self.old.history.items ++ Sweep ∷ []) × (times Sweep self.old.history.items < self.old.sweep_due)) ((self.new ≡ self.old) × (self.old.sweep_due ≤ times Sweep self.old.history.items)) }
+        ensures stepped { MatchBool result
+            ((self.new.history.items ≡ self.old.history.items ++ Sweep ∷ [])
+            × (times Sweep self.old.history.items < self.old.sweep_due))
+            ((self.new ≡ self.old) × (self.old.sweep_due ≤ times Sweep self.old.history.items)) }
     {
         if self.sweeps >= self.sweep_due {
             return false;

@@ -27,7 +27,10 @@ impl Calls for Plain {
 
 // Sets the first two words of a block: to the expression, and to the number of the cycle.
 fn link(block: u8, first: Expr) -> Write
-    ensures { result ≡ record { block = block; set = Some (tree first) ∷ Some cycle_number ∷ None ∷ None ∷ None ∷ None ∷ None ∷ None ∷ [] } }
+    ensures { result ≡ record {
+      block = block;
+      set = Some (tree first) ∷ Some cycle_number ∷ None ∷ None ∷ None ∷ None ∷ None ∷ None ∷ [];
+    } }
 {
     Write {
         block,
@@ -50,8 +53,16 @@ fn link(block: u8, first: Expr) -> Write
 fn chain(alloc: Global) -> Result<Task, AllocError>
     ensures { IfOk result (λ task. task.writes ≡
         record { block = 0; set = Some (input 0) ∷ Some cycle_number ∷ None ∷ None ∷ None ∷ None ∷ None ∷ None ∷ [] }
-        ∷ record { block = 1; set = Some (block_word 0 0) ∷ Some cycle_number ∷ None ∷ None ∷ None ∷ None ∷ None ∷ None ∷ [] }
-        ∷ record { block = 2; set = Some (block_word 1 0) ∷ Some cycle_number ∷ None ∷ None ∷ None ∷ None ∷ None ∷ None ∷ [] }
+        ∷ record {
+          block = 1;
+          set =
+              Some (block_word 0 0) ∷ Some cycle_number ∷ None ∷ None ∷ None ∷ None ∷ None ∷ None ∷ [];
+        }
+        ∷ record {
+          block = 2;
+          set =
+              Some (block_word 1 0) ∷ Some cycle_number ∷ None ∷ None ∷ None ∷ None ∷ None ∷ None ∷ [];
+        }
         ∷ []) }
 {
     let mut writes = Writes::new(alloc);

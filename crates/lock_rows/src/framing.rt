@@ -36,8 +36,8 @@ fn left(mut framer: Framer) -> usize {
     left
 }
 
-/// How many copies of a plan the framer took when the workers have ended, where it tries as often as a channel lets it. Where
-/// memory runs out, 0.
+/// How many copies of a plan the framer took when the workers have ended, where it tries as often as a channel lets it.
+/// Where memory runs out, 0.
 pub fn taken<R: Threads + Wait + Sync>(rt: &R, alloc: Global, table: &Table, plan: Plan) -> usize
     requires blocks { table.now.blocks ≡ 64 }
     requires planned { All (λ b. b < 64) plan }

@@ -1,5 +1,5 @@
-//! The two workers of a channel, as tests: that a gate is called before each step and both run at once, the pipe between them,
-//! each order of a few steps, rounds without writes or copies, and a round of a full plan.
+//! The two workers of a channel, as tests: that a gate is called before each step and both run at once, the pipe
+//! between them, each order of a few steps, rounds without writes or copies, and a round of a full plan.
 #![tactic(auto)]
 
 #[cfg(test)]

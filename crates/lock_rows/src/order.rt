@@ -3,8 +3,8 @@ use ctx_lock::{Actor, Gate};
 use std::sync::atomic::{AtomicUsize, Ordering};
 use std::thread;
 
-/// The order, as numbers: 0 for a write and else a copy. It counts how many writes and copies their workers are known to
-/// have made.
+/// The order, as numbers: 0 for a write and else a copy. It counts how many writes and copies their workers are known
+/// to have made.
 #[derive(Drop)]
 pub struct InOrder<'a> {
     order: &'a [u8],

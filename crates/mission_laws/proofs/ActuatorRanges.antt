@@ -18,17 +18,22 @@ unfolding step_at
 step_in path value h =
     passes_then is_step (integer_of path value) _ (λ step given.
     passes_then is_step (demand (int_le (pos 0) step) _ path) _ (λ met holds.
-    passes_ok is_step step (and_true (is_word step) (int_le (pos 0) step) (integer_is_word path value h step given) (demanded (int_le (pos 0) step) _ path met holds))))
+    passes_ok is_step step (and_true (is_word step) (int_le (pos 0) step) (integer_is_word path value h step given)
+    (demanded (int_le (pos 0) step) _ path met holds))))
 
 module _ (outputs : ℕ) where
-  steps_in : (path : List ℕ) (value : Data) → holds_words value ≡ true → Passes (are_steps outputs) (steps_at outputs path value)
+  steps_in : (path : List ℕ) (value : Data) → holds_words value ≡ true →
+      Passes (are_steps outputs) (steps_at outputs path value)
   unfolding steps_at
   steps_in path value h =
       passes_then (are_steps outputs) (checks.sized outputs outputs path value) _ (λ items given steps is.
-      let parts = both (within outputs outputs (how_many items)) (items_hold_words items) (sized_holds outputs outputs path value h items given) in
+      let parts = both (within outputs outputs (how_many items)) (items_hold_words items)
+      (sized_holds outputs outputs path value h items given) in
       and_true (length steps == outputs) (list_all is_step steps)
-      (subst (λ n. (length steps == n) ≡ true) (only_count outputs (how_many items) parts.0) (each_counts (alone step_at) path items steps is))
-      (each_passes (alone step_at) is_step (λ done path value h. step_in path value h) path [] items parts.1 refl steps is))
+      (subst (λ n. (length steps == n) ≡ true) (only_count outputs (how_many items) parts.0)
+      (each_counts (alone step_at) path items steps is))
+      (each_passes (alone step_at) is_step (λ done path value h. step_in path value h) path [] items parts.1 refl steps
+      is))
 
   start_in : (path : List ℕ) (given : Option Data) → ((value : Data) → given ≡ Some value → holds_words value ≡ true)
       → Passes (are_starts outputs) (words_or_zeros outputs path given)
@@ -47,11 +52,13 @@ module _ (outputs : ℕ) where
       passes_then drives (only (codes "step" ∷ codes "start" ∷ []) path fields) _ (λ _ _.
       passes_then drives (required path (codes "step") fields) _ (λ list a.
       passes_then drives (steps_at outputs (field path (codes "step")) list) _ (λ steps b.
-      passes_then drives (words_or_zeros outputs (field path (codes "start")) (get_member (codes "start") fields)) _ (λ start c.
+      passes_then drives (words_or_zeros outputs (field path (codes "start")) (get_member (codes "start") fields)) _
+      (λ start c.
       passes_ok drives (record { steps = steps; start = start })
       (and_true (are_steps outputs steps) (are_starts outputs start)
       (steps_in (field path (codes "step")) list (required_holds path (codes "step") fields all list a) steps b)
-      (start_in (field path (codes "start")) (get_member (codes "start") fields) (λ v is. member_holds (codes "start") fields v all is) start c)))))))
+      (start_in (field path (codes "start")) (get_member (codes "start") fields)
+      (λ v is. member_holds (codes "start") fields v all is) start c)))))))
 
   abbrev pub is_one : Option ActuatorValue → Bool
   is_one a = is_actuator outputs a
@@ -59,8 +66,12 @@ module _ (outputs : ℕ) where
   optional_in : (path : List ℕ) (given : Option Data) → ((value : Data) → given ≡ Some value → holds_words value ≡ true)
       → Passes is_one (actuator_or_none outputs path given)
   optional_in path None h = passes_ok is_one None refl
-  optional_in path (Some value) h = passes_then is_one (actuator_at outputs path value) _ (λ a given. passes_ok is_one (Some a) (one_in path value (h value refl) a given))
+  optional_in path (Some value) h =
+      passes_then is_one (actuator_at outputs path value) _
+      (λ a given. passes_ok is_one (Some a) (one_in path value (h value refl) a given))
 
-  pub actuator_in : (fields : Members) → members_hold_words fields ≡ true → Passes is_one (actuator_field outputs fields)
+  pub actuator_in : (fields : Members) → members_hold_words fields ≡ true →
+      Passes is_one (actuator_field outputs fields)
   unfolding actuator_field
-  actuator_in fields all = optional_in (codes "actuator") (get_member (codes "actuator") fields) (λ value is. member_holds (codes "actuator") fields value all is)
+  actuator_in fields all = optional_in (codes "actuator") (get_member (codes "actuator") fields)
+      (λ value is. member_holds (codes "actuator") fields value all is)

@@ -45,7 +45,9 @@ demanded false cause path x is = absurd cc
 
 integer_within : (low high : ℕ) (path : List ℕ) (value : Data)
     → Passes (within low high) (integer_in low high path value)
-integer_within low high path (integer (pos n)) = passes_if (within low high) (nat_le low n && nat_le n high) (Ok n) (fails _ path) (λ h. passes_ok (within low high) n h) (passes_err (within low high) _)
+integer_within low high path (integer (pos n)) =
+    passes_if (within low high) (nat_le low n && nat_le n high) (Ok n) (fails _ path)
+    (λ h. passes_ok (within low high) n h) (passes_err (within low high) _)
 integer_within low high path (integer (negsuc n)) = passes_err (within low high) _
 integer_within low high path (string text) = passes_err (within low high) _
 integer_within low high path (float x) = passes_err (within low high) _
@@ -57,7 +59,9 @@ integer_within low high path (table fields) = passes_err (within low high) _
 pub number_within : (low high : ℕ) (path key : List ℕ) (fields : Members)
     → Passes (within low high) (number low high path key fields)
 unfolding number
-number_within low high path key fields = passes_then (within low high) (required path key fields) _ (λ value _. integer_within low high (field path key) value)
+number_within low high path key fields =
+    passes_then (within low high) (required path key fields) _
+    (λ value _. integer_within low high (field path key) value)
 
 default_within : (default low high : ℕ) (path : List ℕ) (given : Option Data) → within low high default ≡ true
     → Passes (within low high) (integer_or default low high path given)
@@ -67,7 +71,8 @@ default_within default low high path (Some value) h = integer_within low high pa
 pub number_or_within : (default low high : ℕ) (path key : List ℕ) (fields : Members) → within low high default ≡ true
     → Passes (within low high) (number_or default low high path key fields)
 unfolding number_or
-number_or_within default low high path key fields h = default_within default low high (field path key) (get_member key fields) h
+number_or_within default low high path key fields h =
+    default_within default low high (field path key) (get_member key fields) h
 
 -- ---- what stands in a document that holds words alone
 
@@ -84,7 +89,9 @@ member_holds key no_members value all is = absurd cc
 member_holds key (member name first rest) value all is =
     let parts = both (holds_words first) (members_hold_words rest) all in
     chosen_by (slice_cmp nat_cmp key name) (get_member key rest) (Some first) (get_member key rest) value
-    (member_holds key rest value parts.1) (λ same. let e : first ≡ value = cc in subst (λ z. holds_words z ≡ true) e parts.0) (member_holds key rest value parts.1) is
+    (member_holds key rest value parts.1)
+    (λ same. let e : first ≡ value = cc in subst (λ z. holds_words z ≡ true) e parts.0)
+    (member_holds key rest value parts.1) is
 
 found_holds : (path : List ℕ) (given : Option Data) → ((value : Data) → given ≡ Some value → holds_words value ≡ true)
     → Passes holds_words (found path given)
@@ -93,7 +100,8 @@ found_holds path (Some value) h = passes_ok holds_words value (h value refl)
 
 pub required_holds : (path key : List ℕ) (fields : Members) → members_hold_words fields ≡ true
     → Passes holds_words (required path key fields)
-required_holds path key fields all = found_holds (field path key) (get_member key fields) (λ value is. member_holds key fields value all is)
+required_holds path key fields all =
+    found_holds (field path key) (get_member key fields) (λ value is. member_holds key fields value all is)
 
 pub table_holds : (path : List ℕ) (value : Data) → holds_words value ≡ true
     → Passes members_hold_words (table_of path value)
@@ -134,28 +142,41 @@ pub sized_holds : (low high : ℕ) (path : List ℕ) (value : Data) → holds_wo
 unfolding sized
 sized_holds low high path value h =
     passes_then (are_items low high) (array_of path value) _ (λ items given.
-    passes_then (are_items low high) (demand (nat_le low (how_many items) && nat_le (how_many items) high) _ path) _ (λ met holds.
-    passes_ok (are_items low high) items (and_true (within low high (how_many items)) (items_hold_words items) (demanded (nat_le low (how_many items) && nat_le (how_many items) high) _ path met holds) (array_holds path value h items given))))
+    passes_then (are_items low high) (demand (nat_le low (how_many items) && nat_le (how_many items) high) _ path) _
+    (λ met holds.
+    passes_ok (are_items low high) items
+    (and_true (within low high (how_many items)) (items_hold_words items)
+    (demanded (nat_le low (how_many items) && nat_le (how_many items) high) _ path met holds)
+    (array_holds path value h items given))))
 
 -- ---- elements
 
-module _ {A : Type 0} (check : List A → List ℕ → Data → Checked A) (test : A → Bool) (one_passes : (done : List A) (path : List ℕ) (value : Data) → holds_words value ≡ true → Passes test (check done path value)) where
+module _ {A : Type 0} (check : List A → List ℕ → Data → Checked A) (test : A → Bool)
+    (one_passes : (done : List A) (path : List ℕ) (value : Data) → holds_words value ≡ true →
+    Passes test (check done path value)) where
   pub each_passes : (path : List ℕ) (done : List A) (items : Items) → items_hold_words items ≡ true
       → list_all test done ≡ true → Passes (list_all test) (each check path done items)
   unfolding each
   each_passes path done no_items all so_far = passes_ok (list_all test) done so_far
   each_passes path done (item value rest) all so_far =
       let parts = both (holds_words value) (items_hold_words rest) all in
-      passes_then (list_all test) (check done (element path (length done)) value) (λ x. each check path (done ++ x ∷ []) rest)
-      (λ x given. each_passes path (done ++ x ∷ []) rest parts.1 (all-append test done (x ∷ []) so_far (and_true (test x) true (one_passes done (element path (length done)) value parts.0 x given) refl)))
+      passes_then (list_all test) (check done (element path (length done)) value)
+      (λ x. each check path (done ++ x ∷ []) rest)
+      (λ x given. each_passes path (done ++ x ∷ []) rest parts.1
+      (all-append test done (x ∷ []) so_far
+      (and_true (test x) true (one_passes done (element path (length done)) value parts.0 x given) refl)))
 
-each_counts_to : {A : Type 0} (check : List A → List ℕ → Data → Checked A) (path : List ℕ) (done : List A) (items : Items) (n : ℕ)
+each_counts_to : {A : Type 0} (check : List A → List ℕ → Data → Checked A) (path : List ℕ) (done : List A)
+    (items : Items) (n : ℕ)
     → length done + how_many items ≡ n → Passes (λ all. length all == n) (each check path done items)
 unfolding each
-each_counts_to check path done no_items n count = passes_ok (λ all. length all == n) done (eq-eqb (length done) n (omega (arith, count)))
+each_counts_to check path done no_items n count =
+    passes_ok (λ all. length all == n) done (eq-eqb (length done) n (omega (arith, count)))
 each_counts_to check path done (item value rest) n count =
-    passes_then (λ all. length all == n) (check done (element path (length done)) value) (λ x. each check path (done ++ x ∷ []) rest)
-    (λ x _. each_counts_to check path (done ++ x ∷ []) rest n (ap (λ k. k + how_many rest) (length-append done (x ∷ [])) ∙ omega (arith, count)))
+    passes_then (λ all. length all == n) (check done (element path (length done)) value)
+    (λ x. each check path (done ++ x ∷ []) rest)
+    (λ x _. each_counts_to check path (done ++ x ∷ []) rest n
+    (ap (λ k. k + how_many rest) (length-append done (x ∷ [])) ∙ omega (arith, count)))
 
 -- as many elements as the array has
 pub each_counts : {A : Type 0} (check : List A → List ℕ → Data → Checked A) (path : List ℕ) (items : Items)
@@ -167,14 +188,18 @@ abbrev pub are_words : ℕ → List ℤ → Bool
 are_words count words = length words == count && list_all is_word words
 
 pub only_count : (count n : ℕ) → within count count n ≡ true → n ≡ count
-only_count count n h = let parts = both (nat_le count n) (nat_le n count) h in omega (arith, leb-true count n parts.0, leb-true n count parts.1)
+only_count count n h = let parts = both (nat_le count n) (nat_le n count) h in
+    omega (arith, leb-true count n parts.0, leb-true n count parts.1)
 
 pub integers_are : (count : ℕ) (path : List ℕ) (value : Data) → holds_words value ≡ true
     → Passes (are_words count) (integers count path value)
 unfolding integers
 integers_are count path value h =
     passes_then (are_words count) (sized count count path value) _ (λ items given words is.
-    let parts = both (within count count (how_many items)) (items_hold_words items) (sized_holds count count path value h items given) in
+    let parts = both (within count count (how_many items)) (items_hold_words items)
+    (sized_holds count count path value h items given) in
     and_true (length words == count) (list_all is_word words)
-    (subst (λ n. (length words == n) ≡ true) (only_count count (how_many items) parts.0) (each_counts (alone integer_of) path items words is))
-    (each_passes (alone integer_of) is_word (λ done path value h. integer_is_word path value h) path [] items parts.1 refl words is))
+    (subst (λ n. (length words == n) ≡ true) (only_count count (how_many items) parts.0)
+    (each_counts (alone integer_of) path items words is))
+    (each_passes (alone integer_of) is_word (λ done path value h. integer_is_word path value h) path [] items parts.1
+    refl words is))

@@ -24,11 +24,14 @@ sizes_in path fields =
     passes_then are_sizes (number 1 4 path (codes "width") fields) _ (λ width d.
     passes_ok are_sizes (record { channels = channels; cycles = cycles; blocks = blocks; width = width })
     (and_true (within 3 7 channels && within 1 2000 cycles) (within 1 256 blocks && within 1 4 width)
-    (and_true (within 3 7 channels) (within 1 2000 cycles) (number_within 3 7 path (codes "channels") fields channels a) (number_within 1 2000 path (codes "cycles") fields cycles b))
-    (and_true (within 1 256 blocks) (within 1 4 width) (number_within 1 256 path (codes "blocks") fields blocks c) (number_within 1 4 path (codes "width") fields width d)))))))
+    (and_true (within 3 7 channels) (within 1 2000 cycles) (number_within 3 7 path (codes "channels") fields channels a)
+    (number_within 1 2000 path (codes "cycles") fields cycles b))
+    (and_true (within 1 256 blocks) (within 1 4 width) (number_within 1 256 path (codes "blocks") fields blocks c)
+    (number_within 1 4 path (codes "width") fields width d)))))))
 
 abbrev pub are_limits : Limits → Bool
-are_limits l = ((within 0 65536 l.keep && within 65536 6553600 l.threshold) && (within 1 64 l.sweep && within 0 64 l.last)) && within 0 1000 l.return_after
+are_limits l = ((within 0 65536 l.keep && within 65536 6553600 l.threshold)
+    && (within 1 64 l.sweep && within 0 64 l.last)) && within 0 1000 l.return_after
 
 limits_in : (path : List ℕ) (fields : Members) → Passes are_limits (limits_at path fields)
 unfolding limits_at
@@ -38,11 +41,21 @@ limits_in path fields =
     passes_then are_limits (number_or 2 0 1000 path (codes "return_after") fields) _ (λ return_after c.
     passes_then are_limits (number_or 16 1 64 path (codes "sweep") fields) _ (λ sweep d.
     passes_then are_limits (number_or 8 0 64 path (codes "final") fields) _ (λ last e.
-    passes_ok are_limits (record { keep = keep; threshold = threshold; return_after = return_after; sweep = sweep; last = last })
-    (and_true ((within 0 65536 keep && within 65536 6553600 threshold) && (within 1 64 sweep && within 0 64 last)) (within 0 1000 return_after)
+    passes_ok are_limits (record {
+      keep = keep;
+      threshold = threshold;
+      return_after = return_after;
+      sweep = sweep;
+      last = last;
+    })
+    (and_true ((within 0 65536 keep && within 65536 6553600 threshold) && (within 1 64 sweep && within 0 64 last))
+    (within 0 1000 return_after)
     (and_true (within 0 65536 keep && within 65536 6553600 threshold) (within 1 64 sweep && within 0 64 last)
-    (and_true (within 0 65536 keep) (within 65536 6553600 threshold) (number_or_within 32768 0 65536 path (codes "keep") fields refl keep a) (number_or_within 131072 65536 6553600 path (codes "threshold") fields refl threshold b))
-    (and_true (within 1 64 sweep) (within 0 64 last) (number_or_within 16 1 64 path (codes "sweep") fields refl sweep d) (number_or_within 8 0 64 path (codes "final") fields refl last e)))
+    (and_true (within 0 65536 keep) (within 65536 6553600 threshold)
+    (number_or_within 32768 0 65536 path (codes "keep") fields refl keep a)
+    (number_or_within 131072 65536 6553600 path (codes "threshold") fields refl threshold b))
+    (and_true (within 1 64 sweep) (within 0 64 last) (number_or_within 16 1 64 path (codes "sweep") fields refl sweep d)
+    (number_or_within 8 0 64 path (codes "final") fields refl last e)))
     (number_or_within 2 0 1000 path (codes "return_after") fields refl return_after c)))))))
 
 law_in : (version : ℕ) (path : List ℕ) (value : Data) → Passes (is_law version) (decay_law_at version path value)
@@ -63,7 +76,8 @@ unfolding law_field
 law_field_in version path fields = law_or_in version (field path (codes "decay")) (get_member (codes "decay") fields)
 
 abbrev pub are_choices : Choices → Bool
-are_choices c = (within 1 2 c.version && is_law c.version c.law) && (within 0 6553600 c.decrement && within 1 2 c.returning)
+are_choices c = (within 1 2 c.version && is_law c.version c.law)
+    && (within 0 6553600 c.decrement && within 1 2 c.returning)
 
 choices_in : (path : List ℕ) (fields : Members) → Passes are_choices (choices_at path fields)
 unfolding choices_at
@@ -74,8 +88,11 @@ choices_in path fields =
     passes_then are_choices (number_or 1 1 2 path (codes "returning") fields) _ (λ returning d.
     passes_ok are_choices (record { version = version; law = law; decrement = decrement; returning = returning })
     (and_true (within 1 2 version && is_law version law) (within 0 6553600 decrement && within 1 2 returning)
-    (and_true (within 1 2 version) (is_law version law) (number_or_within 1 1 2 path (codes "version") fields refl version a) (law_field_in version path fields law b))
-    (and_true (within 0 6553600 decrement) (within 1 2 returning) (number_or_within 32768 0 6553600 path (codes "decrement") fields refl decrement c) (number_or_within 1 1 2 path (codes "returning") fields refl returning d)))))))
+    (and_true (within 1 2 version) (is_law version law)
+    (number_or_within 1 1 2 path (codes "version") fields refl version a) (law_field_in version path fields law b))
+    (and_true (within 0 6553600 decrement) (within 1 2 returning)
+    (number_or_within 32768 0 6553600 path (codes "decrement") fields refl decrement c)
+    (number_or_within 1 1 2 path (codes "returning") fields refl returning d)))))))
 
 abbrev pub is_core : CoreFields → Bool
 is_core core = are_sizes core.sizes && (are_limits core.limits && are_choices core.choices)
@@ -90,7 +107,8 @@ core_in path value =
     passes_then is_core (choices_at path fields) _ (λ choices c.
     passes_ok is_core (record { sizes = sizes; limits = limits; choices = choices })
     (and_true (are_sizes sizes) (are_limits limits && are_choices choices) (sizes_in path fields sizes a)
-    (and_true (are_limits limits) (are_choices choices) (limits_in path fields limits b) (choices_in path fields choices c))))))))
+    (and_true (are_limits limits) (are_choices choices) (limits_in path fields limits b)
+    (choices_in path fields choices c))))))))
 
 -- what is known of the numbers of a core
 pub record CoreIn (core : CoreFields) : Type 0 where
@@ -104,7 +122,8 @@ pub core_parts : (core : CoreFields) → is_core core ≡ true → CoreIn core
 core_parts core h =
     let all = both (are_sizes core.sizes) (are_limits core.limits && are_choices core.choices) h in
     let two = both (are_limits core.limits) (are_choices core.choices) all.1 in
-    let sizes = both (within 3 7 core.sizes.channels && within 1 2000 core.sizes.cycles) (within 1 256 core.sizes.blocks && within 1 4 core.sizes.width) all.0 in
+    let sizes = both (within 3 7 core.sizes.channels && within 1 2000 core.sizes.cycles)
+    (within 1 256 core.sizes.blocks && within 1 4 core.sizes.width) all.0 in
     let counts = both (within 3 7 core.sizes.channels) (within 1 2000 core.sizes.cycles) sizes.0 in
     let widths = both (within 1 256 core.sizes.blocks) (within 1 4 core.sizes.width) sizes.1 in
     let decay = within 0 65536 core.limits.keep && within 65536 6553600 core.limits.threshold in
@@ -113,8 +132,10 @@ core_parts core h =
     let counting = both decay copies limits.0 in
     record {
       rules =
-          and_true ((within 3 7 core.sizes.channels && within 1 256 core.sizes.blocks) && decay) (copies && are_choices core.choices)
-          (and_true (within 3 7 core.sizes.channels && within 1 256 core.sizes.blocks) decay (and_true (within 3 7 core.sizes.channels) (within 1 256 core.sizes.blocks) counts.0 widths.0) counting.0)
+          and_true ((within 3 7 core.sizes.channels && within 1 256 core.sizes.blocks) && decay)
+          (copies && are_choices core.choices)
+          (and_true (within 3 7 core.sizes.channels && within 1 256 core.sizes.blocks) decay
+          (and_true (within 3 7 core.sizes.channels) (within 1 256 core.sizes.blocks) counts.0 widths.0) counting.0)
           (and_true copies (are_choices core.choices) counting.1 two.1);
       cycles = counts.1;
       width = widths.1;

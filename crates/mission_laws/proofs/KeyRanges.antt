@@ -67,7 +67,8 @@ module _ (sizes : Sizes) where
 
   ran : (bytes : List ℕ) (at : ℕ) (s : State) (e : Expression) → read_from sizes bytes at s ≡ Ok e → Ran bytes s e
   ran [] at s e is = (s, refl, complete at (finished s) e is)
-  ran (byte ∷ bytes) at s e is = ran_on bytes at e (after sizes s (byte_kind byte)) (λ next more. ran bytes (at + 1) next e more) is
+  ran (byte ∷ bytes) at s e is =
+      ran_on bytes at e (after sizes s (byte_kind byte)) (λ next more. ran bytes (at + 1) next e more) is
 
   small_one : (b : Bool) (x e : Expression) (fault : ExprFault) → (if b then Ok x else Err fault) ≡ Ok e → x ≡ e
   small_one true x e fault is = cc
@@ -86,7 +87,9 @@ module _ (sizes : Sizes) where
       → fits_sizes sizes.blocks sizes.width e ≡ true
   unfolding parsed
   parsed_fits few text e is =
-      let all = ran text 0 initial e (measured (read_from sizes text 0 initial) e (short_one (nat_lt 1100 (length text)) (within_size (read_from sizes text 0 initial)) _ e is)) in
+      let all = ran text 0 initial e
+      (measured (read_from sizes text 0 initial) e
+      (short_one (nat_lt 1100 (length text)) (within_size (read_from sizes text 0 initial)) _ e is)) in
       tree_fits sizes few e (read_in sizes few text e (spelled_at_end sizes few text all.0 e all.1 (sym all.2)))
 
 module _ (blocks width : ℕ) (few : blocks ≤ 256) where
@@ -102,7 +105,8 @@ module _ (blocks width : ℕ) (few : blocks ≤ 256) where
   unfolding expression_at
   expression_fits path value =
       passes_then fits (text_of path value) _ (λ text _.
-      answer_fits (length text) path (parsed (record { blocks = blocks; width = width }) text) (parsed_fits (record { blocks = blocks; width = width }) few text))
+      answer_fits (length text) path (parsed (record { blocks = blocks; width = width }) text)
+      (parsed_fits (record { blocks = blocks; width = width }) few text))
 
   -- ---- outputs
 
@@ -121,7 +125,8 @@ module _ (blocks width : ℕ) (few : blocks ≤ 256) where
 
   output_is : (path : List ℕ) (value : Data) → Passes is_output (output_at blocks width path value)
   unfolding output_at
-  output_is path value = passes_then is_output (expression_at blocks width path value) _ (λ e given. word_is path e (expression_fits path value e given))
+  output_is path value = passes_then is_output (expression_at blocks width path value) _
+      (λ e given. word_is path e (expression_fits path value e given))
 
   abbrev pub are_outputs : List (ℕ × ℕ) → Bool
   are_outputs outputs = within 1 8 (length outputs) && list_all (λ o. nat_lt o.0 blocks && nat_lt o.1 8) outputs
@@ -132,10 +137,15 @@ module _ (blocks width : ℕ) (few : blocks ≤ 256) where
   outputs_in fields all =
       passes_then are_outputs (required [] (codes "outputs") fields) _ (λ value given.
       passes_then are_outputs (checks.sized 1 8 (codes "outputs") value) _ (λ items some outputs is.
-      let parts = both (within 1 8 (how_many items)) (items_hold_words items) (sized_holds 1 8 (codes "outputs") value (required_holds [] (codes "outputs") fields all value given) items some) in
+      let parts = both (within 1 8 (how_many items)) (items_hold_words items)
+      (sized_holds 1 8 (codes "outputs") value (required_holds [] (codes "outputs") fields all value given) items
+      some) in
       and_true (within 1 8 (length outputs)) (list_all is_output outputs)
-      (subst (λ n. within 1 8 n ≡ true) (sym (eqb-true (length outputs) (how_many items) (each_counts (alone (output_at blocks width)) (codes "outputs") items outputs is))) parts.0)
-      (each_passes (alone (output_at blocks width)) is_output (λ done path value _. output_is path value) (codes "outputs") [] items parts.1 refl outputs is)))
+      (subst (λ n. within 1 8 n ≡ true)
+      (sym (eqb-true (length outputs) (how_many items)
+      (each_counts (alone (output_at blocks width)) (codes "outputs") items outputs is))) parts.0)
+      (each_passes (alone (output_at blocks width)) is_output (λ done path value _. output_is path value)
+      (codes "outputs") [] items parts.1 refl outputs is)))
 
   -- ---- tasks
 
@@ -144,7 +154,9 @@ module _ (blocks width : ℕ) (few : blocks ≤ 256) where
 
   optional_fits : (path : List ℕ) (given : Option Data) → Passes is_set (expression_or_none blocks width path given)
   optional_fits path None = passes_ok is_set None refl
-  optional_fits path (Some value) = passes_then is_set (expression_at blocks width path value) _ (λ e given. passes_ok is_set (Some e) (expression_fits path value e given))
+  optional_fits path (Some value) =
+      passes_then is_set (expression_at blocks width path value) _
+      (λ e given. passes_ok is_set (Some e) (expression_fits path value e given))
 
   set_fits : (path key : List ℕ) (fields : Members) → Passes is_set (set_expression_at blocks width path key fields)
   unfolding set_expression_at
@@ -164,7 +176,8 @@ module _ (blocks width : ℕ) (few : blocks ≤ 256) where
       passes_ok are_four (a ∷ b ∷ c ∷ d ∷ [])
       (and_true (is_set a) (is_set b && (is_set c && (is_set d && true))) (set_fits path k0 fields a x)
       (and_true (is_set b) (is_set c && (is_set d && true)) (set_fits path k1 fields b y)
-      (and_true (is_set c) (is_set d && true) (set_fits path k2 fields c z) (and_true (is_set d) true (set_fits path k3 fields d w) refl))))))))
+      (and_true (is_set c) (is_set d && true) (set_fits path k2 fields c z)
+      (and_true (is_set d) true (set_fits path k3 fields d w) refl))))))))
 
   abbrev are_eight : List (Option Expression) → Bool
   are_eight set = are_sets blocks width set
@@ -175,16 +188,20 @@ module _ (blocks width : ℕ) (few : blocks ≤ 256) where
       let a = both (length low == 4) (list_all is_set low) l in
       let b = both (length high == 4) (list_all is_set high) h in
       and_true (length (low ++ high) == 8) (list_all is_set (low ++ high))
-      (eq-eqb (length (low ++ high)) 8 (length-append low high ∙ omega (arith, eqb-true (length low) 4 a.0, eqb-true (length high) 4 b.0)))
+      (eq-eqb (length (low ++ high)) 8
+      (length-append low high ∙ omega (arith, eqb-true (length low) 4 a.0, eqb-true (length high) 4 b.0)))
       (all-append is_set low high a.1 b.1)
 
   sets_fit : (path : List ℕ) (fields : Members) → Passes are_eight (expressions_at blocks width path fields)
   unfolding expressions_at
   sets_fit path fields =
-      passes_then are_eight (four_sets_at blocks width path (codes "w0") (codes "w1") (codes "w2") (codes "w3") fields) _ (λ low l.
-      passes_then are_eight (four_sets_at blocks width path (codes "w4") (codes "w5") (codes "w6") (codes "w7") fields) _ (λ high h.
+      passes_then are_eight (four_sets_at blocks width path (codes "w0") (codes "w1") (codes "w2") (codes "w3") fields)
+      _ (λ low l.
+      passes_then are_eight (four_sets_at blocks width path (codes "w4") (codes "w5") (codes "w6") (codes "w7") fields)
+      _ (λ high h.
       passes_ok are_eight (low ++ high)
-      (joined low high (four_fit path (codes "w0") (codes "w1") (codes "w2") (codes "w3") fields low l) (four_fit path (codes "w4") (codes "w5") (codes "w6") (codes "w7") fields high h))))
+      (joined low high (four_fit path (codes "w0") (codes "w1") (codes "w2") (codes "w3") fields low l)
+      (four_fit path (codes "w4") (codes "w5") (codes "w6") (codes "w7") fields high h))))
 
   abbrev is_read_write : WriteValue → Bool
   is_read_write write = are_sets blocks width write.set
@@ -204,8 +221,10 @@ module _ (blocks width : ℕ) (few : blocks ≤ 256) where
   writes_fit path fields all =
       passes_then (list_all is_read_write) (required path (codes "writes") fields) _ (λ value given.
       passes_then (list_all is_read_write) (array_of (field path (codes "writes")) value) _ (λ items array.
-      each_passes (alone (write_at blocks width)) is_read_write (λ done path value _. write_fits path value) (field path (codes "writes")) [] items
-      (array_holds (field path (codes "writes")) value (required_holds path (codes "writes") fields all value given) items array) refl))
+      each_passes (alone (write_at blocks width)) is_read_write (λ done path value _. write_fits path value)
+      (field path (codes "writes")) [] items
+      (array_holds (field path (codes "writes")) value (required_holds path (codes "writes") fields all value given)
+      items array) refl))
 
   abbrev pub is_task_read : TaskValue → Bool
   is_task_read task = is_read_task blocks width task
@@ -218,7 +237,8 @@ module _ (blocks width : ℕ) (few : blocks ≤ 256) where
       passes_then is_task_read (only (codes "name" ∷ codes "writes" ∷ []) path fields) _ (λ _ _.
       passes_then is_task_read (name_at earlier path fields) _ (λ name _.
       passes_then is_task_read (writes_at blocks width path fields) _ (λ writes read.
-      passes_ok is_task_read (record { name = name; writes = writes }) (writes_fit path fields (table_holds path value h fields given) writes read)))))
+      passes_ok is_task_read (record { name = name; writes = writes })
+      (writes_fit path fields (table_holds path value h fields given) writes read)))))
 
   tasks_fit : (fields : Members) → members_hold_words fields ≡ true
       → Passes (list_all is_task_read) (tasks_field blocks width fields)
@@ -244,14 +264,16 @@ module _ (blocks width : ℕ) (few : blocks ≤ 256) where
     unfolding place_at
     place_is path value =
         passes_then is_place (text_of path value) _ (λ name _.
-        chosen_place path (position_or_len (has_name name) tasks) (nat_lt (position_or_len (has_name name) tasks) (length tasks)) refl)
+        chosen_place path (position_or_len (has_name name) tasks)
+        (nat_lt (position_or_len (has_name name) tasks) (length tasks)) refl)
 
     row_names : (path : List ℕ) (value : Data) → holds_words value ≡ true
         → Passes (names_tasks (length tasks)) (row_at tasks path value)
     unfolding row_at
     row_names path value h =
         passes_then (names_tasks (length tasks)) (array_of path value) _ (λ items array.
-        each_passes (alone (place_at tasks)) is_place (λ done path value _. place_is path value) path [] items (array_holds path value h items array) refl)
+        each_passes (alone (place_at tasks)) is_place (λ done path value _. place_is path value) path [] items
+        (array_holds path value h items array) refl)
 
     rows_name : (fields : Members) → members_hold_words fields ≡ true
         → Passes (list_all (names_tasks (length tasks))) (rows_field tasks fields)
@@ -259,8 +281,10 @@ module _ (blocks width : ℕ) (few : blocks ≤ 256) where
     rows_name fields all =
         passes_then (list_all (names_tasks (length tasks))) (required [] (codes "table") fields) _ (λ value given.
         passes_then (list_all (names_tasks (length tasks))) (array_of (codes "table") value) _ (λ items array.
-        each_passes (alone (row_at tasks)) (names_tasks (length tasks)) (λ done path value h. row_names path value h) (codes "table") [] items
-        (array_holds (codes "table") value (required_holds [] (codes "table") fields all value given) items array) refl))
+        each_passes (alone (row_at tasks)) (names_tasks (length tasks)) (λ done path value h. row_names path value h)
+        (codes "table") [] items
+        (array_holds (codes "table") value (required_holds [] (codes "table") fields all value given) items array)
+        refl))
 
   abbrev pub is_whole_table : List (List TaskValue) → Bool
   is_whole_table table = is_table blocks width table
@@ -283,7 +307,8 @@ module _ (blocks width : ℕ) (few : blocks ≤ 256) where
 
 module _ (blocks : ℕ) (some : 1 ≤ blocks) where
   below_all : (block : ℕ) → within 0 (blocks - 1) block ≡ true → nat_lt block blocks ≡ true
-  below_all block h = let most = leb-true block (blocks - 1) (both (nat_le 0 block) (nat_le block (blocks - 1)) h).1 in lt-ltb block blocks (omega (arith, most, some))
+  below_all block h = let most = leb-true block (blocks - 1) (both (nat_le 0 block) (nat_le block (blocks - 1)) h).1 in
+      lt-ltb block blocks (omega (arith, most, some))
 
   block_in : (earlier : List InitBlock) (path : List ℕ) (value : Data) → holds_words value ≡ true
       → Passes (is_init_block blocks) (init_block_at blocks earlier path value)
@@ -296,22 +321,27 @@ module _ (blocks : ℕ) (some : 1 ≤ blocks) where
       passes_then (is_init_block blocks) (required path (codes "words") fields) _ (λ list b.
       passes_then (is_init_block blocks) (integers 8 (field path (codes "words")) list) _ (λ words c.
       passes_ok (is_init_block blocks) (record { block = block; words = words })
-      (and_true (nat_lt block blocks) (is_block words) (below_all block (number_within 0 (blocks - 1) path (codes "block") fields block a))
-      (integers_are 8 (field path (codes "words")) list (required_holds path (codes "words") fields (table_holds path value h fields given) list b) words c))))))))
+      (and_true (nat_lt block blocks) (is_block words)
+      (below_all block (number_within 0 (blocks - 1) path (codes "block") fields block a))
+      (integers_are 8 (field path (codes "words")) list
+      (required_holds path (codes "words") fields (table_holds path value h fields given) list b) words c))))))))
 
   blocks_in : (path : List ℕ) (value : Data) → holds_words value ≡ true
       → Passes (list_all (is_init_block blocks)) (init_blocks_at blocks path value)
   unfolding init_blocks_at
   blocks_in path value h =
       passes_then (list_all (is_init_block blocks)) (checks.sized 0 256 path value) _ (λ items given.
-      each_passes (init_block_at blocks) (is_init_block blocks) block_in path [] items (both (within 0 256 (how_many items)) (items_hold_words items) (sized_holds 0 256 path value h items given)).1 refl)
+      each_passes (init_block_at blocks) (is_init_block blocks) block_in path [] items
+      (both (within 0 256 (how_many items)) (items_hold_words items) (sized_holds 0 256 path value h items given)).1
+      refl)
 
   start_in : (path : List ℕ) (value : Data) → holds_words value ≡ true
       → Passes (is_context blocks) (initial_at blocks path value)
   unfolding initial_at
   start_in path value h =
       passes_then (is_context blocks) (init_blocks_at blocks path value) _ (λ named given.
-      passes_ok (is_context blocks) (with_blocks named (zeroed blocks)) (whole_start blocks named (blocks_in path value h named given)))
+      passes_ok (is_context blocks) (with_blocks named (zeroed blocks))
+      (whole_start blocks named (blocks_in path value h named given)))
 
   optional_start : (path : List ℕ) (given : Option Data)
       → ((value : Data) → given ≡ Some value → holds_words value ≡ true)
@@ -322,7 +352,8 @@ module _ (blocks : ℕ) (some : 1 ≤ blocks) where
   pub initial_in : (fields : Members) → members_hold_words fields ≡ true
       → Passes (is_context blocks) (initial_field blocks fields)
   unfolding initial_field
-  initial_in fields all = optional_start (codes "init") (get_member (codes "init") fields) (λ value is. member_holds (codes "init") fields value all is)
+  initial_in fields all = optional_start (codes "init") (get_member (codes "init") fields)
+      (λ value is. member_holds (codes "init") fields value all is)
 
 -- ---- sensors
 
@@ -335,10 +366,13 @@ module _ (channels width : ℕ) where
   unfolding sensor_row_at
   row_in path value h =
       passes_then is_row_read (checks.sized channels channels path value) _ (λ items given row is.
-      let parts = both (within channels channels (how_many items)) (items_hold_words items) (sized_holds channels channels path value h items given) in
+      let parts = both (within channels channels (how_many items)) (items_hold_words items)
+      (sized_holds channels channels path value h items given) in
       and_true (length row == channels) (list_all (are_words width) row)
-      (subst (λ n. (length row == n) ≡ true) (only_count channels (how_many items) parts.0) (each_counts (alone (integers width)) path items row is))
-      (each_passes (alone (integers width)) (are_words width) (λ done path value h. integers_are width path value h) path [] items parts.1 refl row is))
+      (subst (λ n. (length row == n) ≡ true) (only_count channels (how_many items) parts.0)
+      (each_counts (alone (integers width)) path items row is))
+      (each_passes (alone (integers width)) (are_words width) (λ done path value h. integers_are width path value h)
+      path [] items parts.1 refl row is))
 
   pub sensors_in : (fields : Members) → members_hold_words fields ≡ true
       → Passes (is_sensors channels width) (sensors_field channels width fields)
@@ -346,10 +380,15 @@ module _ (channels width : ℕ) where
   sensors_in fields all =
       passes_then (is_sensors channels width) (required [] (codes "sensors") fields) _ (λ value given.
       passes_then (is_sensors channels width) (checks.sized 1 64 (codes "sensors") value) _ (λ items some rows is.
-      let parts = both (within 1 64 (how_many items)) (items_hold_words items) (sized_holds 1 64 (codes "sensors") value (required_holds [] (codes "sensors") fields all value given) items some) in
+      let parts = both (within 1 64 (how_many items)) (items_hold_words items)
+      (sized_holds 1 64 (codes "sensors") value (required_holds [] (codes "sensors") fields all value given) items
+      some) in
       and_true (within 1 64 (length rows)) (list_all is_row_read rows)
-      (subst (λ n. within 1 64 n ≡ true) (sym (eqb-true (length rows) (how_many items) (each_counts (alone (sensor_row_at channels width)) (codes "sensors") items rows is))) parts.0)
-      (each_passes (alone (sensor_row_at channels width)) is_row_read (λ done path value h. row_in path value h) (codes "sensors") [] items parts.1 refl rows is)))
+      (subst (λ n. within 1 64 n ≡ true)
+      (sym (eqb-true (length rows) (how_many items)
+      (each_counts (alone (sensor_row_at channels width)) (codes "sensors") items rows is))) parts.0)
+      (each_passes (alone (sensor_row_at channels width)) is_row_read (λ done path value h. row_in path value h)
+      (codes "sensors") [] items parts.1 refl rows is)))
 
 -- ---- faults
 
@@ -363,7 +402,8 @@ unfolding slot_field slot_at
 slot_on_bus path fields =
     passes_then on_bus (required path (codes "slot") fields) _ (λ value _.
     passes_then on_bus (text_of (field path (codes "slot")) value) _ (λ text _.
-    named_on_bus (field path (codes "slot")) (find (λ slot. bytes_eq text (slot_text slot)) every_slot) (find_passes (λ slot. bytes_eq text (slot_text slot)) on_bus every_slot refl)))
+    named_on_bus (field path (codes "slot")) (find (λ slot. bytes_eq text (slot_text slot)) every_slot)
+    (find_passes (λ slot. bytes_eq text (slot_text slot)) on_bus every_slot refl)))
 
 crash_in : (path : List ℕ) (fields : Members) → Passes is_entry (crash_at path fields)
 unfolding crash_at
@@ -434,7 +474,8 @@ kind_in kind path fields all =
     (passes_if is_entry (bytes_eq kind (codes "restart")) (restart_at path fields) third (λ _. restart_in path fields)
     (passes_if is_entry (bytes_eq kind (codes "damage")) (damage_at path fields) fourth (λ _. damage_in path fields all)
     (passes_if is_entry (bytes_eq kind (codes "lose")) (lose_at path fields) fifth (λ _. lose_in path fields)
-    (passes_if is_entry (bytes_eq kind (codes "forge")) (forge_at path fields) unknown (λ _. forge_in path fields) (passes_err is_entry _)))))
+    (passes_if is_entry (bytes_eq kind (codes "forge")) (forge_at path fields) unknown (λ _. forge_in path fields)
+    (passes_err is_entry _)))))
 
 fault_in : (path : List ℕ) (value : Data) → holds_words value ≡ true → Passes is_entry (fault_at path value)
 unfolding fault_at
@@ -449,7 +490,8 @@ faults_in : (path : List ℕ) (value : Data) → holds_words value ≡ true
 unfolding faults_at
 faults_in path value h =
     passes_then (list_all is_entry) (array_of path value) _ (λ items array.
-    each_passes (alone fault_at) is_entry (λ done path value h. fault_in path value h) path [] items (array_holds path value h items array) refl)
+    each_passes (alone fault_at) is_entry (λ done path value h. fault_in path value h) path [] items
+    (array_holds path value h items array) refl)
 
 -- what holds of the script that is given
 abbrev pub Gives : {A : Type 0} → (A → Type 0) → Checked A → Type 0
@@ -473,17 +515,22 @@ script_at_fits : (channels cycles blocks : ℕ) (path : List ℕ) (value : Data)
 unfolding script_at
 script_at_fits channels cycles blocks path value h =
     gives_then (FitsSizes channels cycles blocks) (faults_at path value) _ (λ faults given.
-    kept_fits channels cycles blocks path faults (faults_in path value h faults given) (script_fault channels cycles blocks faults) refl)
+    kept_fits channels cycles blocks path faults (faults_in path value h faults given)
+    (script_fault channels cycles blocks faults) refl)
 
 optional_script : (channels cycles blocks : ℕ) (path : List ℕ) (given : Option Data)
     → ((value : Data) → given ≡ Some value → holds_words value ≡ true)
     → Gives (FitsSizes channels cycles blocks) (script_or_empty channels cycles blocks path given)
 optional_script channels cycles blocks path None h script is =
     let e : [] ≡ script = cc in
-    subst (λ s. FitsSizes channels cycles blocks s) e (script_fits channels cycles blocks [] refl (none_broken channels cycles blocks))
-optional_script channels cycles blocks path (Some value) h script is = script_at_fits channels cycles blocks path value (h value refl) script is
+    subst (λ s. FitsSizes channels cycles blocks s) e
+    (script_fits channels cycles blocks [] refl (none_broken channels cycles blocks))
+optional_script channels cycles blocks path (Some value) h script is =
+    script_at_fits channels cycles blocks path value (h value refl) script is
 
 pub script_in : (channels cycles blocks : ℕ) (fields : Members) → members_hold_words fields ≡ true
     → Gives (FitsSizes channels cycles blocks) (script_field channels cycles blocks fields)
 unfolding script_field
-script_in channels cycles blocks fields all = optional_script channels cycles blocks (codes "fault") (get_member (codes "fault") fields) (λ value is. member_holds (codes "fault") fields value all is)
+script_in channels cycles blocks fields all =
+    optional_script channels cycles blocks (codes "fault") (get_member (codes "fault") fields)
+    (λ value is. member_holds (codes "fault") fields value all is)

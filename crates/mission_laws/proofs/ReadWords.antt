@@ -47,9 +47,12 @@ good_if false a b h k = k
 prefixed_good : (radix : ℕ) (digits : List ℕ) → Good (prefixed_integer radix digits)
 unfolding prefixed_integer is_word
 prefixed_good radix digits =
-    good_if ((nat_lt 0 (length digits) && list_all (λ c. is_digit c radix) digits) && nat_lt (digits_value radix digits) (2 ^ 63))
+    good_if ((nat_lt 0 (length digits) && list_all (λ c. is_digit c radix) digits)
+    && nat_lt (digits_value radix digits) (2 ^ 63))
     (Some (Integer (pos (digits_value radix digits)))) None
-    (λ h. good_some (Integer (pos (digits_value radix digits))) (second_true (nat_lt 0 (length digits) && list_all (λ c. is_digit c radix) digits) (nat_lt (digits_value radix digits) (2 ^ 63)) h))
+    (λ h. good_some (Integer (pos (digits_value radix digits)))
+    (second_true (nat_lt 0 (length digits) && list_all (λ c. is_digit c radix) digits)
+    (nat_lt (digits_value radix digits) (2 ^ 63)) h))
     good_none
 
 below_or_at : (limit m : ℕ) (b : Bool) → nat_lt (suc m) limit ≡ b → (b || suc m == limit) ≡ true
@@ -75,44 +78,54 @@ integer_good negative n =
 
 float_good : (negative : Bool) (p : Parts) → Good (float_of negative p)
 float_good negative p =
-    good_if (float_is_finite (nearest binary64 negative p)) (Some (Float (nearest binary64 negative p))) None (λ _. good_some (Float (nearest binary64 negative p)) refl) good_none
+    good_if (float_is_finite (nearest binary64 negative p)) (Some (Float (nearest binary64 negative p))) None
+    (λ _. good_some (Float (nearest binary64 negative p)) refl) good_none
 
 decimal_good : (negative : Bool) (word : List ℕ) → Good (decimal_number negative word)
 unfolding decimal_number
 decimal_good negative word =
     let p = scan word in
-    let last = if p.point || nat_lt 0 (length p.exponent) then float_of negative p else integer_of negative (digits_of p) in
+    let last = if p.point || nat_lt 0 (length p.exponent) then float_of negative p
+    else integer_of negative (digits_of p) in
     let third = if not (p.len == length word && is_decimal p) then None else last in
-    good_if (bytes_eq word (codes "inf")) (Some (Float (inf negative))) (if bytes_eq word (codes "nan") then Some (Float nan) else third) (λ _. good_some (Float (inf negative)) refl)
+    good_if (bytes_eq word (codes "inf")) (Some (Float (inf negative)))
+    (if bytes_eq word (codes "nan") then Some (Float nan) else third) (λ _. good_some (Float (inf negative)) refl)
     (good_if (bytes_eq word (codes "nan")) (Some (Float nan)) third (λ _. good_some (Float nan) refl)
     (good_if (not (p.len == length word && is_decimal p)) None last (λ _. good_none)
-    (good_if (p.point || nat_lt 0 (length p.exponent)) (float_of negative p) (integer_of negative (digits_of p)) (λ _. float_good negative p) (integer_good negative (digits_of p)))))
+    (good_if (p.point || nat_lt 0 (length p.exponent)) (float_of negative p) (integer_of negative (digits_of p))
+    (λ _. float_good negative p) (integer_good negative (digits_of p)))))
 
 plain_good : (word : List ℕ) → Good (plain_number word)
 unfolding plain_number
 plain_good word =
     let last = if first word == plus then decimal_number false (drop 1 word) else decimal_number false word in
-    good_if (not (radix_of word == 10)) (prefixed_integer (radix_of word) (drop 2 word)) (if first word == dash then decimal_number true (drop 1 word) else last)
+    good_if (not (radix_of word == 10)) (prefixed_integer (radix_of word) (drop 2 word))
+    (if first word == dash then decimal_number true (drop 1 word) else last)
     (λ _. prefixed_good (radix_of word) (drop 2 word))
     (good_if (first word == dash) (decimal_number true (drop 1 word)) last (λ _. decimal_good true (drop 1 word))
-    (good_if (first word == plus) (decimal_number false (drop 1 word)) (decimal_number false word) (λ _. decimal_good false (drop 1 word)) (decimal_good false word)))
+    (good_if (first word == plus) (decimal_number false (drop 1 word)) (decimal_number false word)
+    (λ _. decimal_good false (drop 1 word)) (decimal_good false word)))
 
 number_good : (word : List ℕ) → Good (number word)
 unfolding number
 number_good word =
-    good_if (underscores_fit (λ c. is_digit c (underscore_radix word)) 0 word) (plain_number (filter (λ c. not (c == underscore)) word)) None
+    good_if (underscores_fit (λ c. is_digit c (underscore_radix word)) 0 word)
+    (plain_number (filter (λ c. not (c == underscore)) word)) None
     (λ _. plain_good (filter (λ c. not (c == underscore)) word)) good_none
 
 datetime_good : (word : List ℕ) → Good (option_map Datetime (parse_datetime word))
-datetime_good word s is = let m = mapped Datetime (parse_datetime word) s is in subst (λ z. scalar_holds z ≡ true) m.2 refl
+datetime_good word s is = let m = mapped Datetime (parse_datetime word) s is in
+    subst (λ z. scalar_holds z ≡ true) m.2 refl
 
 word_good : (word : List ℕ) → Good (word_value word)
 unfolding word_value
 word_good word =
     let last = if looks_like_datetime word then option_map Datetime (parse_datetime word) else number word in
-    good_if (bytes_eq word (codes "true")) (Some (Boolean true)) (if bytes_eq word (codes "false") then Some (Boolean false) else last) (λ _. good_some (Boolean true) refl)
+    good_if (bytes_eq word (codes "true")) (Some (Boolean true))
+    (if bytes_eq word (codes "false") then Some (Boolean false) else last) (λ _. good_some (Boolean true) refl)
     (good_if (bytes_eq word (codes "false")) (Some (Boolean false)) last (λ _. good_some (Boolean false) refl)
-    (good_if (looks_like_datetime word) (option_map Datetime (parse_datetime word)) (number word) (λ _. datetime_good word) (number_good word)))
+    (good_if (looks_like_datetime word) (option_map Datetime (parse_datetime word)) (number word)
+    (λ _. datetime_good word) (number_good word)))
 
 -- ---- what is read, with what follows it
 
@@ -120,7 +133,8 @@ abbrev pub Reads : {A : Type 0} → (A → Bool) → Read A → Type 0
 Reads {A} test read = (x : A) (rest : List ℕ) → read ≡ Some (x, rest) → test x ≡ true
 
 reads_some : {A : Type 0} (test : A → Bool) (x : A) (rest : List ℕ) → test x ≡ true → Reads test (Some (x, rest))
-reads_some {A} test x rest h y after is = let e : ◌≡◌ {A = A × List ℕ} (x, rest) (y, after) = cc in subst (λ p. test p.0 ≡ true) e h
+reads_some {A} test x rest h y after is = let e : ◌≡◌ {A = A × List ℕ} (x, rest) (y, after) = cc in
+    subst (λ p. test p.0 ≡ true) e h
 
 reads_if : {A : Type 0} (test : A → Bool) (b : Bool) (one other : Read A) → Reads test one → Reads test other
     → Reads test (if b then one else other)
@@ -137,7 +151,8 @@ unquoted_reads : (text : List ℕ) → Reads scalar_holds (unquoted text)
 unfolding unquoted
 unquoted_reads text =
     let word = take (word_len text) text in
-    reads_if scalar_holds (word_len text == 0) None (option_map (λ d. (d, drop (word_len text) text)) (word_value word)) (λ x rest is. absurd cc)
+    reads_if scalar_holds (word_len text == 0) None (option_map (λ d. (d, drop (word_len text) text)) (word_value word))
+    (λ x rest is. absurd cc)
     (λ x rest is.
     let m = mapped (λ d. (d, drop (word_len text) text)) (word_value word) (x, rest) is in
     subst (λ z. scalar_holds z ≡ true) (ap (λ p. p.0) m.2) (word_good word m.0 m.1))
@@ -167,13 +182,16 @@ module _ (v : List ℕ → Read Data) (reads_v : (text : List ℕ) → Reads hol
   items_reads zero found text h x rest is = absurd cc
   items_reads (suc n) found text h x rest is =
       let start = skip_blank text in
-      let more : (Data × List ℕ) → Read Items = λ w. option_and_then (items v n (push_item found w.0)) (after_element right_bracket w.1) in
-      reads_if items_hold_words (first start == right_bracket) (Some (found, drop 1 start)) (option_and_then more (v start))
+      let more : (Data × List ℕ) →
+      Read Items = λ w. option_and_then (items v n (push_item found w.0)) (after_element right_bracket w.1) in
+      reads_if items_hold_words (first start == right_bracket) (Some (found, drop 1 start))
+      (option_and_then more (v start))
       (reads_some items_hold_words found (drop 1 start) h)
       (λ x rest is.
       let w = followed (v start) more (x, rest) is in
       let a = followed (after_element right_bracket w.0.1) (items v n (push_item found w.0.0)) (x, rest) w.2 in
-      items_reads n (push_item found w.0.0) a.0 (push_holds found w.0.0 h (reads_v start w.0.0 w.0.1 w.1)) x rest a.2) x rest is
+      items_reads n (push_item found w.0.0) a.0 (push_holds found w.0.0 h (reads_v start w.0.0 w.0.1 w.1)) x rest a.2) x
+      rest is
 
   members_reads : (n : ℕ) (found : Nodes) (text : List ℕ) → nodes_hold found ≡ true
       → Reads members_hold_words (members v n found text)
@@ -181,14 +199,19 @@ module _ (v : List ℕ → Read Data) (reads_v : (text : List ℕ) → Reads hol
   members_reads zero found text h x rest is = absurd cc
   members_reads (suc n) found text h x rest is =
       let start = skip_blank text in
-      let more : ((Key × Data) × List ℕ) → Read Members = λ e. option_and_then (λ next. option_and_then (members v n next) (after_element right_brace e.1)) (put e.0.0 e.0.1 found) in
-      reads_if members_hold_words (first start == right_brace) (Some (close found, drop 1 start)) (option_and_then more (keyval v start))
+      let more : ((Key × Data) × List ℕ) →
+      Read Members = λ e. option_and_then
+      (λ next. option_and_then (members v n next) (after_element right_brace e.1)) (put e.0.0 e.0.1 found) in
+      reads_if members_hold_words (first start == right_brace) (Some (close found, drop 1 start))
+      (option_and_then more (keyval v start))
       (reads_some members_hold_words (close found) (drop 1 start) (close_holds found h))
       (λ x rest is.
       let e = followed (keyval v start) more (x, rest) is in
-      let p = followed (put e.0.0.0 e.0.0.1 found) (λ next. option_and_then (members v n next) (after_element right_brace e.0.1)) (x, rest) e.2 in
+      let p = followed (put e.0.0.0 e.0.0.1 found)
+      (λ next. option_and_then (members v n next) (after_element right_brace e.0.1)) (x, rest) e.2 in
       let a = followed (after_element right_brace e.0.1) (members v n p.0) (x, rest) p.2 in
-      members_reads n p.0 a.0 (put_keeps e.0.0.0 e.0.0.1 (keyval_reads start e.0.0 e.0.1 e.1) found p.0 h p.1) x rest a.2) x rest is
+      members_reads n p.0 a.0 (put_keeps e.0.0.0 e.0.0.1 (keyval_reads start e.0.0 e.0.1 e.1) found p.0 h p.1) x rest
+      a.2) x rest is
 
 val_reads : (depth : ℕ) (text : List ℕ) → Reads holds_words (val depth text)
 unfolding val
@@ -196,10 +219,13 @@ val_reads zero text = atom_reads text
 val_reads (suc depth) text =
     let in_array = read_map array (items (val depth) (length text) no_items (drop 1 text)) in
     let in_table = read_map table (members (val depth) (length text) no_nodes (drop 1 text)) in
-    reads_if holds_words (first text == left_bracket) in_array (if first text == left_brace then in_table else atom text)
-    (reads_map items_hold_words holds_words array (items (val depth) (length text) no_items (drop 1 text)) (λ _ h. h) (items_reads (val depth) (val_reads depth) (length text) no_items (drop 1 text) refl))
+    reads_if holds_words (first text == left_bracket) in_array
+    (if first text == left_brace then in_table else atom text)
+    (reads_map items_hold_words holds_words array (items (val depth) (length text) no_items (drop 1 text)) (λ _ h. h)
+    (items_reads (val depth) (val_reads depth) (length text) no_items (drop 1 text) refl))
     (reads_if holds_words (first text == left_brace) in_table (atom text)
-    (reads_map members_hold_words holds_words table (members (val depth) (length text) no_nodes (drop 1 text)) (λ _ h. h) (members_reads (val depth) (val_reads depth) (length text) no_nodes (drop 1 text) refl))
+    (reads_map members_hold_words holds_words table (members (val depth) (length text) no_nodes (drop 1 text))
+    (λ _ h. h) (members_reads (val depth) (val_reads depth) (length text) no_nodes (drop 1 text) refl))
     (atom_reads text))
 
 -- ---- lines
@@ -212,22 +238,28 @@ unfolding expression
 expression_reads text =
     let pair = read_map (λ p. (p.0, key_value p.1)) (keyval (val recursion_limit) text) in
     let tables = read_map (λ k. (k, std_table)) (header_key (drop 1 text)) in
-    let more : (Key × List ℕ) → Read Expression = λ k. option_map (λ rest. ((k.0, array_table), rest)) (after_byte right_bracket k.1) in
-    reads_if expression_holds (first text == left_bracket && slice_index text 1 == left_bracket) (option_and_then more (header_key (drop 2 text))) (if first text == left_bracket then tables else pair)
+    let more : (Key × List ℕ) →
+    Read Expression = λ k. option_map (λ rest. ((k.0, array_table), rest)) (after_byte right_bracket k.1) in
+    reads_if expression_holds (first text == left_bracket && slice_index text 1 == left_bracket)
+    (option_and_then more (header_key (drop 2 text))) (if first text == left_bracket then tables else pair)
     (λ x rest is.
     let k = followed (header_key (drop 2 text)) more (x, rest) is in
     let m = mapped (λ rest. ((k.0.0, array_table), rest)) (after_byte right_bracket k.0.1) (x, rest) k.2 in
     subst (λ z. expression_holds z ≡ true) (ap (λ p. p.0) m.2) refl)
     (reads_if expression_holds (first text == left_bracket) tables pair
-    (reads_map (λ _. true) expression_holds (λ k. (k, std_table)) (header_key (drop 1 text)) (λ _ _. refl) (λ _ _ _. refl))
-    (reads_map (λ p. holds_words p.1) expression_holds (λ p. (p.0, key_value p.1)) (keyval (val recursion_limit) text) (λ _ h. h) (keyval_reads (val recursion_limit) (val_reads recursion_limit) text)))
+    (reads_map (λ _. true) expression_holds (λ k. (k, std_table)) (header_key (drop 1 text)) (λ _ _. refl)
+    (λ _ _ _. refl))
+    (reads_map (λ p. holds_words p.1) expression_holds (λ p. (p.0, key_value p.1)) (keyval (val recursion_limit) text)
+    (λ _ h. h) (keyval_reads (val recursion_limit) (val_reads recursion_limit) text)))
 
 line_reads : (text : List ℕ) → Reads expression_holds (line text)
 unfolding line
 line_reads text x rest is =
     let more : Expression × List ℕ → Read Expression = λ e. if ends_line (skip_ws e.1) then Some e else None in
     let e = followed (expression text) more (x, rest) is in
-    reads_if expression_holds (ends_line (skip_ws e.0.1)) (Some e.0) None (reads_some expression_holds e.0.0 e.0.1 (expression_reads text e.0.0 e.0.1 e.1)) (λ y after none. absurd cc) x rest e.2
+    reads_if expression_holds (ends_line (skip_ws e.0.1)) (Some e.0) None
+    (reads_some expression_holds e.0.0 e.0.1 (expression_reads text e.0.0 e.0.1 e.1)) (λ y after none. absurd cc) x
+    rest e.2
 
 chosen_document : (b : Bool) (doc : Document) (other : Option Document) (result : Document) → nodes_hold doc.0 ≡ true
     → (other ≡ Some result → nodes_hold result.0 ≡ true) → (if b then Some doc else other) ≡ Some result
@@ -241,7 +273,8 @@ unfolding lines
 lines_hold zero doc text result h is = absurd cc
 lines_hold (suc n) doc text result h is =
     let start = skip_blank text in
-    let more : (Expression × List ℕ) → Option Document = λ e. option_and_then (λ next. lines n next e.1) (define doc e.0) in
+    let more : (Expression × List ℕ) →
+    Option Document = λ e. option_and_then (λ next. lines n next e.1) (define doc e.0) in
     chosen_document (length start == 0) doc (option_and_then more (line start)) result h
     (λ other.
     let e = followed (line start) more result other in
@@ -253,4 +286,5 @@ pub document_holds : (text : List ℕ) (fields : Members) → parse_document tex
 unfolding parse_document
 document_holds text fields is =
     let m = mapped (λ doc. close doc.0) (lines (suc (length text)) (no_nodes, []) (skip_bom text)) fields is in
-    subst (λ z. members_hold_words z ≡ true) m.2 (close_holds m.0.0 (lines_hold (suc (length text)) (no_nodes, []) (skip_bom text) m.0 refl m.1))
+    subst (λ z. members_hold_words z ≡ true) m.2
+    (close_holds m.0.0 (lines_hold (suc (length text)) (no_nodes, []) (skip_bom text) m.0 refl m.1))

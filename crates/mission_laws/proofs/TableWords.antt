@@ -57,7 +57,8 @@ mutual
   close_holds no_nodes h = refl
   close_holds (node k x ns) h =
       let parts = both (node_holds x) (nodes_hold ns) h in
-      and_true (holds_words (close_node x)) (members_hold_words (close ns)) (close_node_holds x parts.0) (close_holds ns parts.1)
+      and_true (holds_words (close_node x)) (members_hold_words (close ns)) (close_node_holds x parts.0)
+      (close_holds ns parts.1)
 
 placed_by : (o : Ordering) (a b c : Nodes) → nodes_hold a ≡ true → nodes_hold b ≡ true → nodes_hold c ≡ true
     → nodes_hold (match_ordering o a b c) ≡ true
@@ -115,7 +116,8 @@ header_node_holds edit keeps (open_table origin inner) result h is =
 header_node_holds edit keeps (open_array done last) result h is =
     let parts = both (items_hold_words done) (nodes_hold last) h in
     let m = mapped (open_array done) (edit last) result is in
-    subst (λ z. node_holds z ≡ true) m.2 (and_true (items_hold_words done) (nodes_hold m.0) parts.0 (keeps last m.0 parts.1 m.1))
+    subst (λ z. node_holds z ≡ true) m.2
+    (and_true (items_hold_words done) (nodes_hold m.0) parts.0 (keeps last m.0 parts.1 m.1))
 
 dot_node_holds : (edit : Edit) → Keeps edit → (x result : Node) → node_holds x ≡ true → dot_node edit x ≡ Some result
     → node_holds result ≡ true
@@ -137,7 +139,8 @@ by_header_holds k edit keeps ns None result all there is =
     subst (λ z. nodes_hold z ≡ true) m.2 (insert_holds k (open_table implicit m.0) ns (keeps no_nodes m.0 refl m.1) all)
 by_header_holds k edit keeps ns (Some x) result all there is =
     let m = mapped (λ new. replace k new ns) (header_node edit x) result is in
-    subst (λ z. nodes_hold z ≡ true) m.2 (replace_holds k m.0 ns (header_node_holds edit keeps x m.0 (there x refl) m.1) all)
+    subst (λ z. nodes_hold z ≡ true) m.2
+    (replace_holds k m.0 ns (header_node_holds edit keeps x m.0 (there x refl) m.1) all)
 
 by_dot_holds : (k : List ℕ) (edit : Edit) → Keeps edit → (ns : Nodes) (found : Option Node) (result : Nodes)
     → nodes_hold ns ≡ true → ((x : Node) → found ≡ Some x → node_holds x ≡ true)
@@ -147,19 +150,22 @@ by_dot_holds k edit keeps ns None result all there is =
     subst (λ z. nodes_hold z ≡ true) m.2 (insert_holds k (open_table dotted m.0) ns (keeps no_nodes m.0 refl m.1) all)
 by_dot_holds k edit keeps ns (Some x) result all there is =
     let m = mapped (λ new. replace k new ns) (dot_node edit x) result is in
-    subst (λ z. nodes_hold z ≡ true) m.2 (replace_holds k m.0 ns (dot_node_holds edit keeps x m.0 (there x refl) m.1) all)
+    subst (λ z. nodes_hold z ≡ true) m.2
+    (replace_holds k m.0 ns (dot_node_holds edit keeps x m.0 (there x refl) m.1) all)
 
 along_header_keeps : (path : List (List ℕ)) (edit : Edit) → Keeps edit → Keeps (along_header path edit)
 unfolding along_header
 along_header_keeps [] edit keeps ns result all is = keeps ns result all is
 along_header_keeps (k ∷ path) edit keeps ns result all is =
-    by_header_holds k (along_header path edit) (along_header_keeps path edit keeps) ns (get_node k ns) result all (λ x there. get_holds k ns x all there) is
+    by_header_holds k (along_header path edit) (along_header_keeps path edit keeps) ns (get_node k ns) result all
+    (λ x there. get_holds k ns x all there) is
 
 along_dots_keeps : (path : List (List ℕ)) (edit : Edit) → Keeps edit → Keeps (along_dots path edit)
 unfolding along_dots
 along_dots_keeps [] edit keeps ns result all is = keeps ns result all is
 along_dots_keeps (k ∷ path) edit keeps ns result all is =
-    by_dot_holds k (along_dots path edit) (along_dots_keeps path edit keeps) ns (get_node k ns) result all (λ x there. get_holds k ns x all there) is
+    by_dot_holds k (along_dots path edit) (along_dots_keeps path edit keeps) ns (get_node k ns) result all
+    (λ x there. get_holds k ns x all there) is
 
 -- ---- definitions
 
@@ -177,7 +183,8 @@ redefine_holds : (what : Definition) (x result : Node) → node_holds x ≡ true
     → node_holds result ≡ true
 redefine_holds (key_value d) x result h is = absurd cc
 redefine_holds std_table (value d) result h is = absurd cc
-redefine_holds std_table (open_table implicit inner) result h is = let e : open_table header inner ≡ result = cc in subst (λ z. node_holds z ≡ true) e h
+redefine_holds std_table (open_table implicit inner) result h is = let e : open_table header inner ≡ result = cc in
+    subst (λ z. node_holds z ≡ true) e h
 redefine_holds std_table (open_table dotted inner) result h is = absurd cc
 redefine_holds std_table (open_table header inner) result h is = absurd cc
 redefine_holds std_table (open_array done last) result h is = absurd cc
@@ -186,7 +193,9 @@ redefine_holds array_table (open_table origin inner) result h is = absurd cc
 redefine_holds array_table (open_array done last) result h is =
     let parts = both (items_hold_words done) (nodes_hold last) h in
     let e : open_array (push_item done (table (close last))) no_nodes ≡ result = cc in
-    subst (λ z. node_holds z ≡ true) e (and_true (items_hold_words (push_item done (table (close last)))) true (push_holds done (table (close last)) parts.0 (close_holds last parts.1)) refl)
+    subst (λ z. node_holds z ≡ true) e
+    (and_true (items_hold_words (push_item done (table (close last)))) true
+    (push_holds done (table (close last)) parts.0 (close_holds last parts.1)) refl)
 
 at_found_holds : (k : List ℕ) (what : Definition) → definition_holds what ≡ true
     → (ns : Nodes) (found : Option Node) (result : Nodes) → nodes_hold ns ≡ true
@@ -201,7 +210,8 @@ at_found_holds k what h ns (Some x) result all there is =
 
 at_key_keeps : (k : List ℕ) (what : Definition) → definition_holds what ≡ true → Keeps (at_key k what)
 unfolding at_key
-at_key_keeps k what h ns result all is = at_found_holds k what h ns (get_node k ns) result all (λ x there. get_holds k ns x all there) is
+at_key_keeps k what h ns result all is =
+    at_found_holds k what h ns (get_node k ns) result all (λ x there. get_holds k ns x all there) is
 
 pub put_keeps : (key : Key) (d : Data) → holds_words d ≡ true → Keeps (put key d)
 put_keeps key d h = along_dots_keeps key.0 (at_key key.1 (key_value d)) (at_key_keeps key.1 (key_value d) h)
@@ -212,11 +222,15 @@ define_as_holds doc key (key_value d) result all h is =
     let m = mapped (λ root. (root, doc.1)) (along_header doc.1 (put key d) doc.0) result is in
     subst (λ z. nodes_hold z.0 ≡ true) m.2 (along_header_keeps doc.1 (put key d) (put_keeps key d h) doc.0 m.0 all m.1)
 define_as_holds doc key std_table result all h is =
-    let m = mapped (λ root. (root, key.0 ++ key.1 ∷ [])) (along_header key.0 (at_key key.1 std_table) doc.0) result is in
-    subst (λ z. nodes_hold z.0 ≡ true) m.2 (along_header_keeps key.0 (at_key key.1 std_table) (at_key_keeps key.1 std_table refl) doc.0 m.0 all m.1)
+    let m = mapped (λ root. (root, key.0 ++ key.1 ∷ [])) (along_header key.0 (at_key key.1 std_table) doc.0) result
+    is in
+    subst (λ z. nodes_hold z.0 ≡ true) m.2
+    (along_header_keeps key.0 (at_key key.1 std_table) (at_key_keeps key.1 std_table refl) doc.0 m.0 all m.1)
 define_as_holds doc key array_table result all h is =
-    let m = mapped (λ root. (root, key.0 ++ key.1 ∷ [])) (along_header key.0 (at_key key.1 array_table) doc.0) result is in
-    subst (λ z. nodes_hold z.0 ≡ true) m.2 (along_header_keeps key.0 (at_key key.1 array_table) (at_key_keeps key.1 array_table refl) doc.0 m.0 all m.1)
+    let m = mapped (λ root. (root, key.0 ++ key.1 ∷ [])) (along_header key.0 (at_key key.1 array_table) doc.0) result
+    is in
+    subst (λ z. nodes_hold z.0 ≡ true) m.2
+    (along_header_keeps key.0 (at_key key.1 array_table) (at_key_keeps key.1 array_table refl) doc.0 m.0 all m.1)
 
 pub define_holds : (doc : Document) (e : Expression) (result : Document) → nodes_hold doc.0 ≡ true
     → definition_holds e.1 ≡ true → define doc e ≡ Some result → nodes_hold result.0 ≡ true

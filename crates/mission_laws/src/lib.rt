@@ -10,7 +10,8 @@ ghost use Rattle.mission_laws.specs.Integers.{members_hold_words};
 
 /// Each integer of a document is a word of 64 bits.
 pub fn documents_hold_words()
-    ensures { (text : List ℕ) (fields : Members) → parse_document text ≡ Some fields → members_hold_words fields ≡ true }
+    ensures { (text : List ℕ) (fields : Members) → parse_document text ≡ Some fields →
+        members_hold_words fields ≡ true }
 {}
 
 /// Whatever bytes stand for a mission, it is a mission: its sizes are in range and its parts fit them.

@@ -10,7 +10,8 @@ module _ (f : ℕ → Bool) (n : ℕ) (before : (j : ℕ) → 1 ≤ j → j ≤ 
   -- the next one passes
   pub found_next : n < 2000 → f (n + 1) ≡ true → Some (n + 1) ≡ first_from f 1 2000
   found_next low passes =
-      sym (least f 1 2000 (n + 1) (omega (arith, low)) (record { from = omega arith; passes = passes; none = λ j from under. before j from (omega (arith, under)) }))
+      sym (least f 1 2000 (n + 1) (omega (arith, low))
+      (record { from = omega arith; passes = passes; none = λ j from under. before j from (omega (arith, under)) }))
 
   -- none passes
   pub found_none : n ≡ 2000 → None ≡ first_from f 1 2000

@@ -25,32 +25,50 @@ there_below a (suc n) b h =
     ]
 
 -- the set of the blocks of a list stands for the list
-pub stand_for_list : (t : TagsValue) (cycles : List TransferCycle) (list : List ℕ) → t.blocks ≤ 256 → StandFor t cycles (blocks_where (has list)) → StandFor t cycles list
+pub stand_for_list : (t : TagsValue) (cycles : List TransferCycle) (list : List ℕ) → t.blocks ≤ 256 →
+    StandFor t cycles (blocks_where (has list)) → StandFor t cycles list
 unfolding tags_of
 stand_for_list t cycles list few stands =
     stands
-    ∙ ap (λ (written : List ℕ). record { blocks = t.blocks; remaining = remaining_blocks t.blocks cycles; cursor = sweep_cursor t.blocks cycles; written = written })
+    ∙ ap (λ (written : List ℕ).
+    record {
+      blocks = t.blocks;
+      remaining = remaining_blocks t.blocks cycles;
+      cursor = sweep_cursor t.blocks cycles;
+      written = written;
+    })
     (filter_alike (has (blocks_where (has list))) (has list) (numbers_below t.blocks)
-    (λ b h. where_has 256 (has list) b (let low : b < 0 + t.blocks = there_below 0 t.blocks b h in omega (arith, low, few))))
+    (λ b h. where_has 256 (has list) b
+    (let low : b < 0 + t.blocks = there_below 0 t.blocks b h in omega (arith, low, few))))
 
 module _ (M : MissionValue) (row n : ℕ) (new : TagsValue) where
   pub one_longer : (cycle : ℕ) → cycle ≡ row + n →
-      StandFor new (record { planned = planned_blocks M.rules.blocks M.rules.sweep (transfer_cycles M row n); written = written_blocks M cycle } ∷ transfer_cycles M row n) [] →
+      StandFor new (record {
+        planned = planned_blocks M.rules.blocks M.rules.sweep (transfer_cycles M row n);
+        written = written_blocks M cycle;
+      } ∷ transfer_cycles M row n) [] →
       StandFor new (transfer_cycles M row (n + 1)) []
   one_longer cycle e stands =
       subst (λ m. StandFor new (transfer_cycles M row m) []) next
-      (subst (λ c. StandFor new (record { planned = planned_blocks M.rules.blocks M.rules.sweep (transfer_cycles M row n); written = written_blocks M c } ∷ transfer_cycles M row n) []) e stands)
+      (subst (λ c. StandFor new
+      (record {
+        planned = planned_blocks M.rules.blocks M.rules.sweep (transfer_cycles M row n);
+        written = written_blocks M c;
+      } ∷ transfer_cycles M row n) []) e stands)
     where
       next : suc n ≡ n + 1
       next = omega arith
 
-  pub fits_is : new.blocks ≡ M.rules.blocks → StandFor new (transfer_cycles M row (n + 1)) [] → fits_after M row (n + 1) ≡ nat_le (length new.remaining) M.rules.last
+  pub fits_is : new.blocks ≡ M.rules.blocks → StandFor new (transfer_cycles M row (n + 1)) [] →
+      fits_after M row (n + 1) ≡ nat_le (length new.remaining) M.rules.last
   fits_is same stands =
       ap (λ (rest : List ℕ). nat_le (length rest) M.rules.last)
-      (sym (ap (λ (t : TagsValue). t.remaining) stands ∙ tags_remain new.blocks (transfer_cycles M row (n + 1)) [] ∙ ap (λ b. remaining_blocks b (transfer_cycles M row (n + 1))) same))
+      (sym (ap (λ (t : TagsValue). t.remaining) stands ∙ tags_remain new.blocks (transfer_cycles M row (n + 1)) []
+      ∙ ap (λ b. remaining_blocks b (transfer_cycles M row (n + 1))) same))
 
 -- none of one number more
-pub none_more : (f : ℕ → Bool) (n : ℕ) → ((j : ℕ) → 1 ≤ j → j ≤ n → f j ≡ false) → f (n + 1) ≡ false → (j : ℕ) → 1 ≤ j → j ≤ n + 1 → f j ≡ false
+pub none_more : (f : ℕ → Bool) (n : ℕ) → ((j : ℕ) → 1 ≤ j → j ≤ n → f j ≡ false) → f (n + 1) ≡ false → (j : ℕ) → 1 ≤ j →
+    j ≤ n + 1 → f j ≡ false
 none_more f n before this j low high = by (cases_lt n j)
   where
     by : (n < j) ⊎ (j ≤ n) → f j ≡ false

@@ -21,11 +21,14 @@ module _ (law : Law) (keep decrement period threshold : ℕ) where
   never_below zero count high = refl
   never_below (suc few) count high = by (is_steady law keep decrement period count) refl (never_below few (next count))
     where
-      by : (b : Bool) → is_steady law keep decrement period count ≡ b → (threshold ≤ next count → is_below threshold (P few (next count)) ≡ false) →
-          is_below threshold (cond (is_steady law keep decrement period count) (Some count) (P few (next count))) ≡ false
+      by : (b : Bool) → is_steady law keep decrement period count ≡ b →
+          (threshold ≤ next count → is_below threshold (P few (next count)) ≡ false) →
+          is_below threshold (cond (is_steady law keep decrement period count) (Some count) (P few (next count)))
+          ≡ false
       by true e rest =
           ap (λ b. is_below threshold (cond b (Some count) (P few (next count)))) e
-          ∙ clear (nat_lt count threshold) (λ h. let low : count < threshold = ltb-true count threshold h in absurd (omega (arith, low, high)))
+          ∙ clear (nat_lt count threshold)
+          (λ h. let low : count < threshold = ltb-true count threshold h in absurd (omega (arith, low, high)))
       by false e rest =
           let up : count < next count = leb-false (next count) count e in
           ap (λ b. is_below threshold (cond b (Some count) (P few (next count)))) e ∙ rest (omega (arith, high, up))
@@ -33,7 +36,8 @@ module _ (law : Law) (keep decrement period threshold : ℕ) where
   -- a steady count is the peak
   pub steady_here : (few count : ℕ) → 0 < few → next count ≤ count → P few count ≡ Some count
   steady_here zero count some low = absurd (omega (arith, some))
-  steady_here (suc few) count some low = ap (λ b. cond b (Some count) (P few (next count))) (le-leb (next count) count low)
+  steady_here (suc few) count some low =
+      ap (λ b. cond b (Some count) (P few (next count))) (le-leb (next count) count low)
 
   -- and any other is followed by the next one
   pub step_on : (few count : ℕ) → count < next count → P (suc few) count ≡ P few (next count)

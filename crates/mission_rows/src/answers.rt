@@ -106,7 +106,8 @@ fn answer_after(alloc: Global, changes: &str) -> Result<String, Fail> {
     answer(alloc, text.as_bytes())
 }
 
-// How many rows there are, and each whose answer is another. A row is a line of changes and the answer, with | between them.
+// How many rows there are, and each whose answer is another. A row is a line of changes and the answer, with | between
+// them.
 pub(crate) fn told(alloc: Global, rows: &str) -> Result<String, Fail> {
     let mut others = String::new(alloc);
     for row in rows.lines() {

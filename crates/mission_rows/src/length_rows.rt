@@ -20,7 +20,8 @@ bytes = \"00ff\"¶|bytes = \"|00|4300|\"¶|read
 bytes = \"00ff\"¶|bytes = \"|00|4301|\"¶|out-of-range fault[4].bytes
 ";
 
-// The rows that rows `OLD|FRONT|ONE|COUNT|BACK|ANSWER` stand for: OLD gives way to so many copies of ONE between FRONT and BACK.
+// The rows that rows `OLD|FRONT|ONE|COUNT|BACK|ANSWER` stand for: OLD gives way to so many copies of ONE between FRONT
+// and BACK.
 fn with_copies(alloc: Global, rows: &str) -> Result<String, Fail> {
     let mut text = String::new(alloc);
     for row in rows.lines() {

@@ -1,5 +1,5 @@
-//! Documents of missions and of fault entries, as tests: every field missing, of another type, too small and too large, and which
-//! of two faults is answered; and demo missions against a plain simulation of their draws.
+//! Documents of missions and of fault entries, as tests: every field missing, of another type, too small and too large,
+//! and which of two faults is answered; and demo missions against a plain simulation of their draws.
 #![tactic(auto)]
 
 #[cfg(test)]

@@ -28,13 +28,15 @@ votes_bare : (P : Past) → last_votes (bare P) ≡ last_votes P
 votes_bare [] = refl
 votes_bare (e ∷ P) = refl
 
-summaries_alike : (number : ℕ) (M : MissionValue) (L K : Log) → HaveSameFacts (cycles_before M L M.cycles) (cycles_before M K M.cycles) → length L ≡ length K →
+summaries_alike : (number : ℕ) (M : MissionValue) (L K : Log) →
+    HaveSameFacts (cycles_before M L M.cycles) (cycles_before M K M.cycles) → length L ≡ length K →
     summary number M L ≡ summary number M K
 unfolding summary
 summaries_alike number M L K same frames =
     let P = cycles_before M L M.cycles in
     let R = cycles_before M K M.cycles in
-    let S : ℕ → ℕ → ℕ → List (Option ℤ) → TextValue = λ joins removals count votes. part_text (summary_part number joins removals count votes) in
+    let S : ℕ → ℕ → ℕ → List (Option ℤ) →
+    TextValue = λ joins removals count votes. part_text (summary_part number joins removals count votes) in
     ap (λ joins. S joins (removals_in P) (length L) (last_votes P)) (same_of P R same joins_in joins_bare)
     ∙ ap (λ removals. S (joins_in R) removals (length L) (last_votes P)) (same_of P R same removals_in removals_bare)
     ∙ ap (λ count. S (joins_in R) (removals_in R) count (last_votes P)) frames
@@ -42,16 +44,20 @@ summaries_alike number M L K same frames =
 
 -- ---- the text
 
-module _ (number : ℕ) (M : MissionValue) (none : ForgesNoSweep (bus_rules M)) (L K : Log) (run_l : IsScriptedRun M L) (run_k : IsScriptedRun M K) where
+module _ (number : ℕ) (M : MissionValue) (none : ForgesNoSweep (bus_rules M)) (L K : Log) (run_l : IsScriptedRun M L)
+    (run_k : IsScriptedRun M K) where
   same_stop : stop_of (cycles_before M L M.cycles) ≡ stop_of (cycles_before M K M.cycles)
   same_stop = stops_alike M L K none run_l run_k
 
-  by_stop : (o : Option StopValue) → stop_of (cycles_before M L M.cycles) ≡ o → demo_text number M L ≡ demo_text number M K
+  by_stop : (o : Option StopValue) → stop_of (cycles_before M L M.cycles) ≡ o →
+      demo_text number M L ≡ demo_text number M K
   by_stop None h =
       ap (text_or_stop (summary number M L)) h
-      ∙ summaries_alike number M L K (same_before M L K none run_l run_k M.cycles (omega arith) h) (frames_alike M L K none run_l run_k)
+      ∙ summaries_alike number M L K (same_before M L K none run_l run_k M.cycles (omega arith) h)
+      (frames_alike M L K none run_l run_k)
       ∙ sym (ap (text_or_stop (summary number M K)) (sym same_stop ∙ h))
-  by_stop (Some stop) h = ap (text_or_stop (summary number M L)) h ∙ sym (ap (text_or_stop (summary number M K)) (sym same_stop ∙ h))
+  by_stop (Some stop) h = ap (text_or_stop (summary number M L)) h
+      ∙ sym (ap (text_or_stop (summary number M K)) (sym same_stop ∙ h))
 
   pub demo_texts_alike : demo_text number M L ≡ demo_text number M K
   demo_texts_alike = by_stop (stop_of (cycles_before M L M.cycles)) refl

@@ -17,7 +17,8 @@ use Rattle.mission_run.specs.Reading.{TakesBytes, TakesUpTo}
 
 -- what the verdict on a trace leaves: its line, or where it says no, as far as the sink takes it
 abbrev pub Judges : MissionValue → List ℕ → SinkView → SinkView → Status → Type 0
-Judges M trace old new Done = IsConsistent M trace × Appends old.written new.written yes_line × (new.faults ≡ old.faults)
+Judges M trace old new Done = IsConsistent M trace × Appends old.written new.written yes_line
+    × (new.faults ≡ old.faults)
 Judges M trace old new WriteFault =
     IsConsistent M trace × AppendsPart old.written new.written yes_line × Rose old.faults new.faults
 Judges M trace old new (NotARun line) = IsFirstBad M trace line × WritesLine old new (no_line line)
@@ -29,7 +30,8 @@ Judges M trace old new _ = ⊥
 abbrev pub JudgesInput : List ℕ → SinkView → SinkView → Status → Type 0
 JudgesInput input old new TooLong = (MAX_MISSION_BYTES < length (mission_bytes input)) × WritesLine old new long_line
 JudgesInput input old new (BadMission why) =
-    (length (mission_bytes input) ≤ MAX_MISSION_BYTES) × (mission_of (mission_bytes input) ≡ Err why) × WritesLine old new (mission_line why)
+    (length (mission_bytes input) ≤ MAX_MISSION_BYTES) × (mission_of (mission_bytes input) ≡ Err why)
+    × WritesLine old new (mission_line why)
 JudgesInput input old new NoMemory = AppendsFront old.written new.written yes_line × (new.faults ≡ old.faults)
 JudgesInput input old new status =
     (M : MissionValue) × (length (mission_bytes input) ≤ MAX_MISSION_BYTES) × (mission_of (mission_bytes input) ≡ Ok M)
@@ -39,11 +41,13 @@ JudgesInput input old new status =
 abbrev pub AuditsBytes : SourceView → SourceView → SinkView → SinkView → Status → Type 0
 -- exactly where one byte too many was taken, or the mission's bytes are too many in an input that was read to its end
 AuditsBytes src src' out out' TooLong =
-    ((input : List ℕ) × (length input ≡ MAX_AUDIT_BYTES + 1) × TakesBytes src src' input × WritesLine out out' long_line)
+    ((input : List ℕ) × (length input ≡ MAX_AUDIT_BYTES + 1) × TakesBytes src src' input
+    × WritesLine out out' long_line)
     ⊎ ((input : List ℕ) × TakesUpTo MAX_AUDIT_BYTES src src' input × JudgesInput input out out' TooLong)
 -- only where the source's faults rose, and before the end of what is read
 AuditsBytes src src' out out' ReadFault =
-    (input : List ℕ) × (length input ≤ MAX_AUDIT_BYTES) × Consumes src.left src'.left input × Rose src.faults src'.faults
+    (input : List ℕ) × (length input ≤ MAX_AUDIT_BYTES) × Consumes src.left src'.left input
+    × Rose src.faults src'.faults
     × WritesLine out out' read_line
 -- while the source is read, at the latest with the byte that is too many, or once it is read; no fault came
 AuditsBytes src src' out out' NoMemory =

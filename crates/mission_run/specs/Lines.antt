@@ -36,4 +36,5 @@ place_text None = []
 place_text (Some at) = codes " at " ++ decimal at
 
 unfoldable pub mission_line : Why → List ℕ
-mission_line why = codes "mission: " ++ (cause_name why.cause ++ (codes " " ++ (why.path ++ (place_text why.at ++ codes "\n"))))
+mission_line why = codes "mission: "
+    ++ (cause_name why.cause ++ (codes " " ++ (why.path ++ (place_text why.at ++ codes "\n"))))

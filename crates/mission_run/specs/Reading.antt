@@ -33,12 +33,15 @@ abbrev pub RefusesBytes : SourceView → SourceView → SinkView → SinkView �
 RefusesBytes src src' out out' (BadMission why) =
     (bytes : List ℕ) × TakesAll src src' bytes × (mission_of bytes ≡ Err why) × WritesLine out out' (mission_line why)
 -- exactly where the source gave one byte more than a mission has
-RefusesBytes src src' out out' TooLong = (bytes : List ℕ) × (length bytes ≡ MAX_MISSION_BYTES + 1) × TakesBytes src src' bytes × WritesLine out out' long_line
+RefusesBytes src src' out out' TooLong = (bytes : List ℕ) × (length bytes ≡ MAX_MISSION_BYTES + 1)
+    × TakesBytes src src' bytes × WritesLine out out' long_line
 -- only where the source's faults rose, and before the end of what is read
 RefusesBytes src src' out out' ReadFault =
-    (bytes : List ℕ) × (length bytes ≤ MAX_MISSION_BYTES) × Consumes src.left src'.left bytes × Rose src.faults src'.faults × WritesLine out out' read_line
+    (bytes : List ℕ) × (length bytes ≤ MAX_MISSION_BYTES) × Consumes src.left src'.left bytes
+    × Rose src.faults src'.faults × WritesLine out out' read_line
 -- while the source is read, at the latest with the byte that is too many, or once it is read; no fault came
-RefusesBytes src src' out out' NoMemory = (bytes : List ℕ) × (length bytes ≤ MAX_MISSION_BYTES + 1) × TakesBytes src src' bytes × (out' ≡ out)
+RefusesBytes src src' out out' NoMemory = (bytes : List ℕ) × (length bytes ≤ MAX_MISSION_BYTES + 1)
+    × TakesBytes src src' bytes × (out' ≡ out)
 RefusesBytes src src' out out' Done = ⊥
 RefusesBytes src src' out out' Usage = ⊥
 RefusesBytes src src' out out' WriteFault = ⊥
@@ -47,12 +50,14 @@ RefusesBytes src src' out out' (NotARun line) = ⊥
 
 -- what reading a mission does, by its answer
 abbrev pub ReadsMission : SourceView → SourceView → SinkView → SinkView → Result MissionValue Status → Type 0
-ReadsMission src src' out out' (Ok M) = (bytes : List ℕ) × TakesAll src src' bytes × (mission_of bytes ≡ Ok M) × (out' ≡ out)
+ReadsMission src src' out out' (Ok M) = (bytes : List ℕ) × TakesAll src src' bytes × (mission_of bytes ≡ Ok M)
+    × (out' ≡ out)
 ReadsMission src src' out out' (Err status) = RefusesBytes src src' out out' status
 
--- What a command does that reads a mission, by its status: it refuses the bytes, and what is to be kept is kept, or the source
--- was read to its end, the bytes are a mission, and the command went on with it.
-abbrev pub OfMission : Type 0 → (MissionValue → Type 0) → SourceView → SourceView → SinkView → SinkView → Status → Type 0
+-- What a command does that reads a mission, by its status: it refuses the bytes, and what is to be kept is kept, or the
+-- source was read to its end, the bytes are a mission, and the command went on with it.
+abbrev pub OfMission : Type 0 → (MissionValue → Type 0) → SourceView → SourceView → SinkView → SinkView → Status →
+    Type 0
 OfMission Kept goes_on src src' out out' status =
     (RefusesBytes src src' out out' status × Kept)
     ⊎ ((bytes : List ℕ) × (M : MissionValue) × TakesAll src src' bytes × (mission_of bytes ≡ Ok M) × goes_on M)
@@ -74,10 +79,12 @@ Tells text old new _ = ⊥
 
 -- what the check of what a source gives does
 abbrev pub ChecksBytes : SourceView → SourceView → SinkView → SinkView → Status → Type 0
-ChecksBytes src src' out out' status = OfMission (Unit {0}) (λ M. Tells (check_of M) out out' status) src src' out out' status
+ChecksBytes src src' out out' status =
+    OfMission (Unit {0}) (λ M. Tells (check_of M) out out' status) src src' out out' status
 
 -- A mission that the source tells is told to its end, unless memory runs out or a fault comes.
 abbrev pub CompletesCheck : SourceView → SourceView → SinkView → SinkView → Status → Type 0
 CompletesCheck src src' out out' status =
-    (bytes : List ℕ) (M : MissionValue) → src.left ≡ Some bytes → length bytes ≤ MAX_MISSION_BYTES → mission_of bytes ≡ Ok M →
+    (bytes : List ℕ) (M : MissionValue) → src.left ≡ Some bytes → length bytes ≤ MAX_MISSION_BYTES →
+    mission_of bytes ≡ Ok M →
     (Rose src.faults src'.faults → ⊥) → (Rose out.faults out'.faults → ⊥) → (status ≡ Done) ⊎ (status ≡ NoMemory)

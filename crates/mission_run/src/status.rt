@@ -23,7 +23,8 @@ pub enum Status {
         active: ChanSet,
     },
     NoMemory,
-    /// The trace is not consistent with its mission: this line is the first that is not good, or one more than there are.
+    /// The trace is not consistent with its mission: this line is the first that is not good, or one more than there
+    /// are.
     NotARun(u32),
 }
 

@@ -10,5 +10,6 @@ pub same_list : {A : Type 0} (xs : List A) → map (λ (x : A). x) xs ≡ xs
 same_list xs = map-id xs
 
 -- rows that name tasks
-pub rows_named : (count : ℕ) (rows : List (Seen ℕ)) → list_all (λ row. names_tasks count row.items) rows ≡ true → list_all (names_tasks count) (places_of rows) ≡ true
+pub rows_named : (count : ℕ) (rows : List (Seen ℕ)) → list_all (λ row. names_tasks count row.items) rows ≡ true →
+    list_all (names_tasks count) (places_of rows) ≡ true
 rows_named count rows named = rw (list_all-map (names_tasks count) (λ row. row.items) rows, named) refl

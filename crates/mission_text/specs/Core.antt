@@ -14,7 +14,8 @@ use Rattle.document_checks.specs.Checks.{Checked, ◌>>=◌, fails, field, text_
 
 abbrev pub core_keys : List (List ℕ)
 core_keys =
-    codes "channels" ∷ codes "cycles" ∷ codes "blocks" ∷ codes "width" ∷ codes "keep" ∷ codes "threshold" ∷ codes "return_after"
+    codes "channels" ∷ codes "cycles" ∷ codes "blocks" ∷ codes "width" ∷ codes "keep" ∷ codes "threshold"
+    ∷ codes "return_after"
     ∷ codes "sweep" ∷ codes "final" ∷ codes "version" ∷ codes "decay" ∷ codes "decrement" ∷ codes "returning" ∷ []
 
 -- the sizes, none of which has a default

@@ -8,8 +8,8 @@ use Rattle.expr_text.specs.Parsed.{parsed}
 use Rattle.document_checks.specs.declared.why.Cause.TheVariants.{BadExpr}
 use Rattle.document_checks.specs.Checks.{Checked, ◌>>=◌, fails_at_place, text_of}
 
--- the place in a text of so many bytes that is named for a fault: where a text in the grammar could not go on, or how much of
--- it may stand. Parsing as a function never answers want of memory.
+-- the place in a text of so many bytes that is named for a fault: where a text in the grammar could not go on, or how
+-- much of it may stand. Parsing as a function never answers want of memory.
 abbrev pub place_of_fault : ℕ → ExprFault → ℕ
 place_of_fault count TooLong = 1100
 place_of_fault count (Grammar at) = at
@@ -21,7 +21,8 @@ expression_or count path (Ok e) = Ok e
 expression_or count path (Err fault) = fails_at_place BadExpr path (place_of_fault count fault)
 
 abbrev pub text_expression : ℕ → ℕ → List ℕ → List ℕ → Checked Expression
-text_expression blocks width path text = expression_or (length text) path (parsed (record { blocks = blocks; width = width }) text)
+text_expression blocks width path text =
+    expression_or (length text) path (parsed (record { blocks = blocks; width = width }) text)
 
 unfoldable pub expression_at : ℕ → ℕ → List ℕ → Data → Checked Expression
 expression_at blocks width path value = do

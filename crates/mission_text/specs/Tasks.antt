@@ -18,7 +18,8 @@ expression_or_none blocks width path (Some value) = expression_at blocks width p
 
 -- the expression for a word, if there is one
 unfoldable pub set_expression_at : ℕ → ℕ → List ℕ → List ℕ → Members → Checked (Option Expression)
-set_expression_at blocks width path key fields = expression_or_none blocks width (field path key) (get_member key fields)
+set_expression_at blocks width path key fields =
+    expression_or_none blocks width (field path key) (get_member key fields)
 
 -- the expressions for four words of a block
 unfoldable pub four_sets_at : ℕ → ℕ → List ℕ → (k0 k1 k2 k3 : List ℕ) → Members → Checked (List (Option Expression))
@@ -38,7 +39,8 @@ expressions_at blocks width path fields = do
 
 abbrev pub write_keys : List (List ℕ)
 write_keys =
-    codes "block" ∷ codes "w0" ∷ codes "w1" ∷ codes "w2" ∷ codes "w3" ∷ codes "w4" ∷ codes "w5" ∷ codes "w6" ∷ codes "w7" ∷ []
+    codes "block" ∷ codes "w0" ∷ codes "w1" ∷ codes "w2" ∷ codes "w3" ∷ codes "w4" ∷ codes "w5" ∷ codes "w6"
+    ∷ codes "w7" ∷ []
 
 unfoldable pub write_at : ℕ → ℕ → List ℕ → Data → Checked WriteValue
 write_at blocks width path value = do

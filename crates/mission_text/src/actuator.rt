@@ -111,7 +111,8 @@ fn step_field(
     outputs: usize,
 ) -> Result<[i64; 8], ReadFault>
     requires { outputs ≤ 8 }
-    ensures exact { Gives (λ steps. take outputs steps) result (steps_at outputs (field path.now (codes "step")) (view given.now)) }
+    ensures exact { Gives (λ steps. take outputs steps) result
+        (steps_at outputs (field path.now (codes "step")) (view given.now)) }
     ensures whole { IfOk result (λ steps. IsTrue (are_steps outputs (take outputs steps))) }
     ensures forward { IfOk result (λ steps. AreForward steps) }
 {

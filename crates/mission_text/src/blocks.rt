@@ -79,8 +79,8 @@ fn duplicate(alloc: Global, path: &str) -> ReadFault
     }
 }
 
-/// The eight words of an element. The path of their key is dropped by name: a drop that is implied at each exit costs the
-/// check more.
+/// The eight words of an element. The path of their key is dropped by name: a drop that is implied at each exit costs
+/// the check more.
 fn words_of(alloc: Global, given: &Value, path: &str) -> Result<[i64; 8], ReadFault>
     ensures exact { Gives (λ words. words) result (integers 8 (field path.now (codes "words")) (view given.now)) }
     ensures whole { IfOk result (λ words. IsTrue (is_block words)) }

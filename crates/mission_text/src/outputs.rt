@@ -68,9 +68,12 @@ pub(crate) fn outputs_field(
     fields: &Table,
     sizes: TextSizes,
 ) -> Result<Outputs, ReadFault>
-    ensures whole { IfOk result (λ outputs. IsTrue (within 1 8 (length outputs.items) && list_all (λ o. nat_lt o.0 sizes.blocks && nat_lt o.1 8) outputs.items)) }
+    ensures whole { IfOk result
+        (λ outputs. IsTrue (within 1 8 (length outputs.items)
+        && list_all (λ o. nat_lt o.0 sizes.blocks && nat_lt o.1 8) outputs.items)) }
     ensures few { IfOk result (λ outputs. length outputs.items ≤ 8) }
-    ensures exact { Gives (λ outputs. outputs.items) result (outputs_field sizes.blocks sizes.width (table_view fields.now)) }
+    ensures exact { Gives (λ outputs. outputs.items) result
+        (outputs_field sizes.blocks sizes.width (table_view fields.now)) }
 {
     let given = required(alloc, fields, "", "outputs")?;
     let items = sized(alloc, given, 1, 8, "outputs")?;

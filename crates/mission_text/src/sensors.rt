@@ -45,7 +45,8 @@ impl ElementReader for WordsReader {
 
     ghost check = { λ reader. alone (integers reader.width) };
 
-    ghost holds = { λ reader places. are_sensor_words reader.width (take reader.width places) && are_places reader.width places };
+    ghost holds = { λ reader places. are_sensor_words reader.width (take reader.width places)
+        && are_places reader.width places };
 
     fn read(
         &self,
@@ -81,7 +82,8 @@ impl ElementReader for SensorReader {
 
     ghost check = { λ reader. alone (sensor_row_at reader.channels reader.width) };
 
-    ghost holds = { λ reader row. is_sensor_row reader.channels reader.width (sensor_row reader.width row) && is_row_of_places reader.width row };
+    ghost holds = { λ reader row. is_sensor_row reader.channels reader.width (sensor_row reader.width row)
+        && is_row_of_places reader.width row };
 
     #[tactic(auto, using(crate::proofs::RowsOfWords::row_holds), unfolding(crate::specs::Sensors::sensor_row_at))]
     fn read(
@@ -106,8 +108,11 @@ pub(crate) fn sensors_field(
     width: u8,
 ) -> Result<SensorRows, ReadFault>
     requires { width ≤ 4 }
-    ensures whole { IfOk result (λ rows. IsTrue (is_sensors channels width (in_use width rows.items) && list_all (is_row_of_places width) rows.items)) }
-    ensures exact { Gives (λ rows. in_use width rows.items) result (sensors_field channels width (table_view fields.now)) }
+    ensures whole { IfOk result
+        (λ rows. IsTrue (is_sensors channels width (in_use width rows.items)
+        && list_all (is_row_of_places width) rows.items)) }
+    ensures exact { Gives (λ rows. in_use width rows.items) result
+        (sensors_field channels width (table_view fields.now)) }
 {
     let given = required(alloc, fields, "", "sensors")?;
     let items = sized(alloc, given, 1, 64, "sensors")?;

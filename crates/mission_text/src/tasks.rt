@@ -33,7 +33,8 @@ fn set_of(
     fields: &Table,
 ) -> Result<Option<Expr>, ReadFault>
     ensures fits { IfOk result (λ e. IsTrue (fits_or_none sizes.blocks sizes.width (option_map tree e))) }
-    ensures exact { Gives (option_map tree) result (set_expression_at sizes.blocks sizes.width path.now key.now (table_view fields.now)) }
+    ensures exact { Gives (option_map tree) result
+        (set_expression_at sizes.blocks sizes.width path.now key.now (table_view fields.now)) }
 {
     match lookup(fields, key) {
         None => Ok(None),
@@ -65,7 +66,8 @@ fn four_sets(
     fields: &Table,
 ) -> Result<FourSets, ReadFault>
     ensures fits { IfOk result (λ s. IsTrue (list_all (fits_or_none sizes.blocks sizes.width) (four_trees s))) }
-    ensures exact { Gives four_trees result (four_sets_at sizes.blocks sizes.width path.now k0.now k1.now k2.now k3.now (table_view fields.now)) }
+    ensures exact { Gives four_trees result
+        (four_sets_at sizes.blocks sizes.width path.now k0.now k1.now k2.now k3.now (table_view fields.now)) }
 {
     let a = set_of(alloc, sizes, path, k0, fields)?;
     match set_of(alloc, sizes, path, k1, fields) {
@@ -105,7 +107,8 @@ fn joined(low: FourSets, high: FourSets) -> Sets
 #[tactic(auto, unfolding(crate::specs::Tasks::expressions_at))]
 fn sets_of(alloc: Global, sizes: TextSizes, path: &str, fields: &Table) -> Result<Sets, ReadFault>
     ensures fits { IfOk result (λ sets. IsTrue (are_sets sizes.blocks sizes.width sets)) }
-    ensures exact { Gives (λ sets. sets) result (expressions_at sizes.blocks sizes.width path.now (table_view fields.now)) }
+    ensures exact { Gives (λ sets. sets) result
+        (expressions_at sizes.blocks sizes.width path.now (table_view fields.now)) }
 {
     let low = four_sets(alloc, sizes, path, "w0", "w1", "w2", "w3", fields)?;
     match four_sets(alloc, sizes, path, "w4", "w5", "w6", "w7", fields) {
@@ -227,8 +230,10 @@ fn writes_of(
     path: &str,
     fields: &Table,
 ) -> Result<Writes, ReadFault>
-    ensures fits { IfOk result (λ writes. IsTrue (list_all (λ write. are_sets sizes.blocks sizes.width write.set) writes.items)) }
-    ensures exact { Gives (λ writes. writes.items) result (writes_at sizes.blocks sizes.width path.now (table_view fields.now)) }
+    ensures fits { IfOk result
+        (λ writes. IsTrue (list_all (λ write. are_sets sizes.blocks sizes.width write.set) writes.items)) }
+    ensures exact { Gives (λ writes. writes.items) result
+        (writes_at sizes.blocks sizes.width path.now (table_view fields.now)) }
 {
     let given = required(alloc, fields, path, "writes")?;
     let place = field(alloc, path, "writes")?;

@@ -22,8 +22,31 @@ coded_actuator =
 
 abbrev pub coded_mission : Coded MissionValue
 coded_mission =
-    code_by (RulesValue × ((ℕ × (ℕ × ℕ)) × (ContextValue × (List (List TaskValue) × (List (ℕ × ℕ) × (List (List (List ℤ)) × (List FaultValue × Option ActuatorValue)))))))
-    (coded× rules.the_row.coded (coded× coded_sizes (coded× coded_words (coded× (coded_list (coded_list coded_task)) (coded× (coded_list (coded× coded_ℕ coded_ℕ)) (coded× (coded_list coded_words) (coded× script.the_row.coded (coded_option coded_actuator))))))))
-    (λ M. (M.rules, ((M.cycles, (M.width, M.return_after)), (M.initial, (M.table, (M.outputs, (M.sensors, (M.script, M.actuator))))))))
-    (λ p. record { rules = p.0; cycles = p.1.0.0; width = p.1.0.1.0; return_after = p.1.0.1.1; initial = p.1.1.0; table = p.1.1.1.0; outputs = p.1.1.1.1.0; sensors = p.1.1.1.1.1.0; script = p.1.1.1.1.1.1.0; actuator = p.1.1.1.1.1.1.1 })
+    code_by (RulesValue × ((ℕ × (ℕ × ℕ))
+    × (ContextValue × (List (List TaskValue)
+    × (List (ℕ × ℕ) × (List (List (List ℤ)) × (List FaultValue × Option ActuatorValue)))))))
+    (coded× rules.the_row.coded
+    (coded× coded_sizes (coded× coded_words
+    (coded× (coded_list (coded_list coded_task))
+    (coded× (coded_list (coded× coded_ℕ coded_ℕ))
+    (coded× (coded_list coded_words) (coded× script.the_row.coded (coded_option coded_actuator))))))))
+    (λ M. (
+      M.rules,
+      (
+        (M.cycles, (M.width, M.return_after)),
+        (M.initial, (M.table, (M.outputs, (M.sensors, (M.script, M.actuator))))),
+      ),
+    ))
+    (λ p. record {
+      rules = p.0;
+      cycles = p.1.0.0;
+      width = p.1.0.1.0;
+      return_after = p.1.0.1.1;
+      initial = p.1.1.0;
+      table = p.1.1.1.0;
+      outputs = p.1.1.1.1.0;
+      sensors = p.1.1.1.1.1.0;
+      script = p.1.1.1.1.1.1.0;
+      actuator = p.1.1.1.1.1.1.1;
+    })
     (λ _. refl)

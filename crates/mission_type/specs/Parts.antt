@@ -20,7 +20,8 @@ in_use width rows = map (λ row. map (take width) row.items) rows
 
 -- the steps and words of so many outputs
 abbrev pub actuator_of : ℕ → Option Actuator → Option ActuatorValue
-actuator_of outputs actuator = option_map (λ a. record { steps = take outputs a.steps; start = take outputs a.start }) actuator
+actuator_of outputs actuator =
+    option_map (λ a. record { steps = take outputs a.steps; start = take outputs a.start }) actuator
 
 -- each step of an actuator's array is at least 0, past the outputs too
 abbrev pub DrivesForward : Option Actuator → Type 0
@@ -28,7 +29,8 @@ DrivesForward None = Unit {0}
 DrivesForward (Some a) = AreForward a.steps
 
 -- the mission of these parts
-abbrev pub mission_with : RulesValue → ℕ → ℕ → ℕ → ContextValue → TableValue → List (ℕ × ℕ) → List (Seen (List ℤ)) → List FaultValue → Option Actuator → MissionValue
+abbrev pub mission_with : RulesValue → ℕ → ℕ → ℕ → ContextValue → TableValue → List (ℕ × ℕ) → List (Seen (List ℤ)) →
+    List FaultValue → Option Actuator → MissionValue
 mission_with rules cycles width return_after initial table outputs sensors script actuator =
     record {
       rules = rules;
@@ -43,8 +45,8 @@ mission_with rules cycles width return_after initial table outputs sensors scrip
       actuator = actuator_of (length outputs) actuator;
     }
 
--- what follows of the sizes of a mission: they are within their ranges, the context has as many blocks as the rules say, outputs are words that there are,
--- and each row has the words of each channel
+-- what follows of the sizes of a mission: they are within their ranges, the context has as many blocks as the rules
+-- say, outputs are words that there are, and each row has the words of each channel
 pub record IsSized (M : MissionValue) : Type 0 where
   pub many : 3 ≤ M.rules.channels
   pub seven : M.rules.channels ≤ 7
@@ -59,7 +61,8 @@ pub record IsSized (M : MissionValue) : Type 0 where
 
 -- the parts are a mission, the table is made for its contexts and inputs, the arrays of sensor words have 0 past the
 -- width, and no step is below 0
-pub record AreParts (M : MissionValue) (table : TableValue) (sensors : List (Seen (List ℤ))) (actuator : Option Actuator) : Type 0 where
+pub record AreParts (M : MissionValue) (table : TableValue) (sensors : List (Seen (List ℤ)))
+    (actuator : Option Actuator) : Type 0 where
   pub mission : IsMission M
   pub blocks : table.blocks ≡ M.rules.blocks
   pub inputs : table.width ≡ M.width

@@ -60,10 +60,13 @@ impl Model for Mission {
 
     ghost coded = { coded_mission };
 
-    ghost view = { λ m. mission_with m.rules m.cycles m.width m.return_after m.initial m.table m.outputs.items m.sensors.items m.script m.actuator };
+    ghost view = { λ m. mission_with m.rules m.cycles m.width m.return_after m.initial m.table m.outputs.items
+        m.sensors.items m.script m.actuator };
 
     // How the parts fit together.
-    ghost invariant = { λ m. AreParts (mission_with m.rules m.cycles m.width m.return_after m.initial m.table m.outputs.items m.sensors.items m.script m.actuator) m.table m.sensors.items m.actuator };
+    ghost invariant = { λ m. AreParts
+        (mission_with m.rules m.cycles m.width m.return_after m.initial m.table m.outputs.items m.sensors.items m.script
+        m.actuator) m.table m.sensors.items m.actuator };
 }
 
 /// The word of a block of the context.
@@ -150,7 +153,11 @@ impl Mission {
 
     /// Lends the table, which is made for the mission's contexts and inputs.
     pub fn table(&self) -> &Table
-        ensures { result.now ≡ record { rows = self.now.table; blocks = self.now.rules.blocks; width = self.now.width } }
+        ensures { result.now ≡ record {
+          rows = self.now.table;
+          blocks = self.now.rules.blocks;
+          width = self.now.width;
+        } }
     {
         &self.table
     }

@@ -31,7 +31,12 @@ final_frame =
             target = 4;
             start = 3;
             copies = [];
-            control = record { law = Subtract; active = 0 ∷ 1 ∷ 2 ∷ 3 ∷ 4 ∷ []; fresh = 4 ∷ []; counts = replicate 7 0 };
+            control = record {
+              law = Subtract;
+              active = 0 ∷ 1 ∷ 2 ∷ 3 ∷ 4 ∷ [];
+              fresh = 4 ∷ [];
+              counts = replicate 7 0;
+            };
           });
     }
 
@@ -47,15 +52,22 @@ request_frame version = record { version = version; sender = 4; cycle = 1; body 
 abbrev pub known_frames : List (List ℕ × FrameValue)
 known_frames =
     (hex (codes "470101040000000100"), request_frame 1) ∷
-    (hex (codes "470201040000000100"), request_frame 2) ∷
-    (hex (codes "47010104000000040100000003"), record { version = 1; sender = 4; cycle = 4; body = request_body (Some 3) }) ∷
+    (hex (codes "470201040000000100"), request_frame 2) ∷ (
+      hex (codes "47010104000000040100000003"),
+      record { version = 1; sender = 4; cycle = 4; body = request_body (Some 3) },
+    ) ∷
     (hex (codes "4701020300000000010101010000000000000009000000"), round1_frame 3 9) ∷
-    (hex (codes "4701020600000000010101010000000000000064000000"), round1_frame 6 100) ∷
-    (hex (codes "470103000000000101000000000000000a"), record { version = 1; sender = 0; cycle = 1; body = vote_body (pos 10 ∷ []) }) ∷
-    (hex (codes "47010602000000010e"), record { version = 1; sender = 2; cycle = 1; body = switch_body (1 ∷ 2 ∷ 3 ∷ []) }) ∷
+    (hex (codes "4701020600000000010101010000000000000064000000"), round1_frame 6 100) ∷ (
+      hex (codes "470103000000000101000000000000000a"),
+      record { version = 1; sender = 0; cycle = 1; body = vote_body (pos 10 ∷ []) },
+    ) ∷ (
+      hex (codes "47010602000000010e"),
+      record { version = 1; sender = 2; cycle = 1; body = switch_body (1 ∷ 2 ∷ 3 ∷ []) },
+    ) ∷
     (final_bytes 28, final_frame) ∷ []
 
--- bytes that are no frame: none at all, a first byte that is not `G`, version 3, a byte for the start that is neither 0 nor
+-- bytes that are no frame: none at all, a first byte that is not `G`, version 3, a byte for the start that is neither 0
+-- nor
 -- 1, a byte too many, one too few, a mask with bit 7, no words, and one label twice
 abbrev pub no_frames : List (List ℕ)
 no_frames =

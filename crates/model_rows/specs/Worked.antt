@@ -104,8 +104,10 @@ pub record IsWorkedStop (run : WorkedRun) (n : ℕ) (slot : Slot) : Type 0 where
 pub record Joins (run : WorkedRun) (join : WorkedJoin) : Type 0 where
   pub whole : is_whole join.channel (past_of run (suc join.cycle)) ≡ true
   pub filled : replica_after run.mission join.channel (past_of run (suc join.cycle)) ≡ join.replica
-  pub taken : content_taken run.mission join.channel (past_of run join.cycle) (cycle_of run join.cycle) ≡ Some join.content
-  pub joined : context_taken run.mission join.channel (past_of run join.cycle) (cycle_of run join.cycle) ≡ Some join.context
+  pub taken : content_taken run.mission join.channel (past_of run join.cycle) (cycle_of run join.cycle)
+      ≡ Some join.content
+  pub joined : context_taken run.mission join.channel (past_of run join.cycle) (cycle_of run join.cycle)
+      ≡ Some join.context
   pub ideal : (cycle_of run join.cycle).ideal_context ≡ join.context
   pub control :
       control_taken run.mission join.channel (past_of run join.cycle) (cycle_of run join.cycle)

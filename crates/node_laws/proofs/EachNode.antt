@@ -25,7 +25,8 @@ each_of f a b here (q ∷ qs) low =
 -- what takes the node of each channel to another one takes all nodes of a mission there
 pub each_node : (M : MissionValue) (f : NodeValue → NodeValue) (a b : Channel → NodeValue) → IsMission M →
     ((q : Channel) → q < 7 → f (a q) ≡ b q) → map f (map a (channels_of M)) ≡ map b (channels_of M)
-each_node M f a b mission here = each_of f a b here (channels_of M) (set_parts (channels_of M) (active_is_set M [] mission)).0
+each_node M f a b mission here =
+    each_of f a b here (channels_of M) (set_parts (channels_of M) (active_is_set M [] mission)).0
 
 same_of : (a b : Channel → NodeValue) → ((q : Channel) → q < 7 → a q ≡ b q) →
     (qs : ChannelSet) → list_all is_channel qs ≡ true → map a qs ≡ map b qs
@@ -37,24 +38,28 @@ same_of a b here (q ∷ qs) low =
 
 pub same_nodes : (M : MissionValue) (a b : Channel → NodeValue) → IsMission M →
     ((q : Channel) → q < 7 → a q ≡ b q) → map a (channels_of M) ≡ map b (channels_of M)
-same_nodes M a b mission here = same_of a b here (channels_of M) (set_parts (channels_of M) (active_is_set M [] mission)).0
+same_nodes M a b mission here =
+    same_of a b here (channels_of M) (set_parts (channels_of M) (active_is_set M [] mission)).0
 
 -- a step of the running part, and of the joining part
-pub running_step : (f : RunningValue → RunningValue) (r s : RunningValue) (j k : JoinerValue) (mode : ModeValue) → f r ≡ s → j ≡ k →
+pub running_step : (f : RunningValue → RunningValue) (r s : RunningValue) (j k : JoinerValue) (mode : ModeValue) →
+    f r ≡ s → j ≡ k →
     on_running f (state_of_mode r j mode) ≡ state_of_mode s k mode
 running_step f r s j k up h i = ap running h
 running_step f r s j k down h i = refl
 running_step f r s j k (waiting n) h i = refl
 running_step f r s j k joining h i = ap returning i
 
-pub returning_step : (f : JoinerValue → JoinerValue) (r s : RunningValue) (j k : JoinerValue) (mode : ModeValue) → r ≡ s → f j ≡ k →
+pub returning_step : (f : JoinerValue → JoinerValue) (r s : RunningValue) (j k : JoinerValue) (mode : ModeValue) →
+    r ≡ s → f j ≡ k →
     on_returning f (state_of_mode r j mode) ≡ state_of_mode s k mode
 returning_step f r s j k up h i = ap running h
 returning_step f r s j k down h i = refl
 returning_step f r s j k (waiting n) h i = refl
 returning_step f r s j k joining h i = ap returning i
 
-pub same_parts : (r s : RunningValue) (j k : JoinerValue) (mode : ModeValue) → r ≡ s → j ≡ k → state_of_mode r j mode ≡ state_of_mode s k mode
+pub same_parts : (r s : RunningValue) (j k : JoinerValue) (mode : ModeValue) → r ≡ s → j ≡ k →
+    state_of_mode r j mode ≡ state_of_mode s k mode
 same_parts r s j k up h i = ap running h
 same_parts r s j k down h i = refl
 same_parts r s j k (waiting n) h i = refl
@@ -62,13 +67,15 @@ same_parts r s j k joining h i = ap returning i
 
 -- ---- crashes
 
-pub is_fallen : (r : RunningValue) (j : JoinerValue) (mode : ModeValue) → is_down mode ≡ true → state_of_mode r j mode ≡ fallen
+pub is_fallen : (r : RunningValue) (j : JoinerValue) (mode : ModeValue) → is_down mode ≡ true →
+    state_of_mode r j mode ≡ fallen
 is_fallen r j up h = absurd cc
 is_fallen r j down h = refl
 is_fallen r j (waiting k) h = absurd cc
 is_fallen r j joining h = absurd cc
 
-pub crashed_by : (M : MissionValue) (q : Channel) (now was : Bool) (state : StateValue) → (was ≡ true → state ≡ fallen) →
+pub crashed_by : (M : MissionValue) (q : Channel) (now was : Bool) (state : StateValue) →
+    (was ≡ true → state ≡ fallen) →
     cond (now && not was) (node_with M q fallen) (node_with M q state) ≡ node_with M q (cond now fallen state)
 crashed_by M q true true state h = ap (node_with M q) (h refl)
 crashed_by M q true false state h = refl

@@ -37,11 +37,17 @@ use Rattle.node_laws.proofs.Opening.{active_in}
 
 -- ---- crashes
 
-pub crash_stays : (q c : ℕ) (slot last : Slot) → up_to slot last ≡ true → (f : FaultValue) → is_crash_by q c slot f ≡ true → is_crash_by q c last f ≡ true
+pub crash_stays : (q c : ℕ) (slot last : Slot) → up_to slot last ≡ true → (f : FaultValue) →
+    is_crash_by q c slot f ≡ true → is_crash_by q c last f ≡ true
 crash_stays q c slot last soon (crash p d when) h =
     let parts = both (p == q && d == c) (up_to when slot) h in
     and_true (p == q && d == c) (up_to when last) parts.0
-    (le-leb (slot_index when) (slot_index last) (omega (arith, leb-true (slot_index when) (slot_index slot) parts.1, leb-true (slot_index slot) (slot_index last) soon)))
+    (le-leb (slot_index when) (slot_index last)
+    (omega (
+      arith,
+      leb-true (slot_index when) (slot_index slot) parts.1,
+      leb-true (slot_index slot) (slot_index last) soon,
+    )))
 crash_stays q c slot last soon (restart p d) h = h
 crash_stays q c slot last soon (damage p d block word value) h = h
 crash_stays q c slot last soon (bus rule) h = h
@@ -58,8 +64,10 @@ on_before Output last soon h = late last (leb-true 9 (slot_index last) soon) h
 on_before slot last soon h = refl
 
 -- a channel that is down has fallen, and another one is as it was
-as_before : (r : RunningValue) (j : JoinerValue) (crashed earlier : Bool) (m : ModeValue) → (earlier ≡ true → crashed ≡ true) →
-    state_of_mode r j (cond crashed down m) ≡ cond (is_down (cond crashed down m)) fallen (state_of_mode r j (cond earlier down m))
+as_before : (r : RunningValue) (j : JoinerValue) (crashed earlier : Bool) (m : ModeValue) →
+    (earlier ≡ true → crashed ≡ true) →
+    state_of_mode r j (cond crashed down m)
+    ≡ cond (is_down (cond crashed down m)) fallen (state_of_mode r j (cond earlier down m))
 as_before r j true earlier m h = refl
 as_before r j false true m h = differ (sym (h refl))
 as_before r j false false up h = refl
@@ -75,7 +83,8 @@ module _ (M : MissionValue) (L : Log) (past : Past) (steps : Steps) (q : Channel
   crashed slot = list_any (is_crash_by q (length past) slot) M.script
 
   pub falls : (before slot : Slot) (done : ℕ) → up_to before slot ≡ true → on_bus slot ≡ true →
-      state_in M past e steps slot done q ≡ cond (is_down (mode_in e q slot)) fallen (state_in M past e steps before done q)
+      state_in M past e steps slot done q
+      ≡ cond (is_down (mode_in e q slot)) fallen (state_in M past e steps before done q)
   unfolding state_in
   falls before slot done soon on =
       let r = running_value_in M past e steps done q in
@@ -84,11 +93,14 @@ module _ (M : MissionValue) (L : Log) (past : Past) (steps : Steps) (q : Channel
       let was = slot_mode M L past q low before (on_before before slot soon on) in
       ap (state_of_mode r j) now
       ∙ as_before r j (crashed slot) (crashed before) (start M L past q low)
-      (any_weaken (is_crash_by q (length past) before) (is_crash_by q (length past) slot) M.script (crash_stays q (length past) before slot soon))
-      ∙ ap (λ m. cond (is_down m) fallen (state_of_mode r j (cond (crashed before) down (start M L past q low)))) (sym now)
+      (any_weaken (is_crash_by q (length past) before) (is_crash_by q (length past) slot) M.script
+      (crash_stays q (length past) before slot soon))
+      ∙ ap (λ m. cond (is_down m) fallen (state_of_mode r j (cond (crashed before) down (start M L past q low))))
+      (sym now)
       ∙ ap (λ m. cond (is_down (mode_in e q slot)) fallen (state_of_mode r j m)) (sym was)
 
-  pub falls_first : state_in M past e steps Request (stage_before Request) q ≡ cond (is_down (mode_in e q Request)) fallen (state_at_opening M past e steps q)
+  pub falls_first : state_in M past e steps Request (stage_before Request) q
+      ≡ cond (is_down (mode_in e q Request)) fallen (state_at_opening M past e steps q)
   unfolding state_in state_at_opening
   falls_first =
       let r = running_value_in M past e steps (stage_before Request) q in
@@ -105,7 +117,8 @@ over : (joined : ChannelSet) (q : ℕ) (t : Option TransferValue) → has joined
 over [] q t h = absurd cc
 over (p ∷ joined) q t h = refl
 
-module _ (M : MissionValue) (L : Log) (n : ℕ) (steps : Steps) (q : Channel) (mission : IsMission M) (more : suc n ≤ M.cycles) (run : HasRun M L (suc n)) (low : q < 7) where
+module _ (M : MissionValue) (L : Log) (n : ℕ) (steps : Steps) (q : Channel) (mission : IsMission M)
+    (more : suc n ≤ M.cycles) (run : HasRun M L (suc n)) (low : q < 7) where
   abbrev before : Past
   before = cycles_before M L n
 
@@ -116,12 +129,16 @@ module _ (M : MissionValue) (L : Log) (n : ℕ) (steps : Steps) (q : Channel) (m
   on = has (active_set M (now ∷ before)) q
 
   abbrev Ends : ModeValue → Type 0
-  Ends m = between_cycles (ended_state on (state_of_mode (running_value_in M before now steps (stage_after Switch) q) (joiner_in M before now (stage_after Switch) q) m))
-      ≡ state_of_mode (running_at M (now ∷ before) q) (joiner_at M (now ∷ before) q) (mode_at_end M.return_after on (is_whole q (now ∷ before)) m)
+  Ends m = between_cycles (ended_state on
+      (state_of_mode (running_value_in M before now steps (stage_after Switch) q)
+      (joiner_in M before now (stage_after Switch) q) m))
+      ≡ state_of_mode (running_at M (now ∷ before) q) (joiner_at M (now ∷ before) q)
+      (mode_at_end M.return_after on (is_whole q (now ∷ before)) m)
 
   -- a channel that is up was active, so it did not join
   not_joined : mode_in now q Switch ≡ up → has now.joined q ≡ false
-  not_joined h = clear (has now.joined q) (λ joined. sym (active_in M L n mission q low Switch h) ∙ joined_passive M L n q joined)
+  not_joined h = clear (has now.joined q)
+      (λ joined. sym (active_in M L n mission q low Switch h) ∙ joined_passive M L n q joined)
 
   not_whole : has now.joined q ≡ false → is_whole q (now ∷ before) ≡ false
   not_whole h = ap (λ b. b && joins_since q (start_of now.transfer) (now ∷ before)) h
@@ -141,34 +158,49 @@ module _ (M : MissionValue) (L : Log) (n : ℕ) (steps : Steps) (q : Channel) (m
   ends_up h true is =
       ap (λ b. between_cycles (ended_state b (running (running_value_in M before now steps (stage_after Switch) q)))) is
       ∙ ap (λ held. running (record { held = held; progress = no_progress })) (keeps (not_joined h))
-      ∙ ap (λ b. state_of_mode (running_at M (now ∷ before) q) (joiner_at M (now ∷ before) q) (mode_at_end M.return_after b (is_whole q (now ∷ before)) up)) (sym is)
+      ∙ ap (λ b. state_of_mode (running_at M (now ∷ before) q) (joiner_at M (now ∷ before) q)
+      (mode_at_end M.return_after b (is_whole q (now ∷ before)) up)) (sym is)
   ends_up h false is =
       ap (λ b. between_cycles (ended_state b (running (running_value_in M before now steps (stage_after Switch) q)))) is
-      ∙ ap (λ b. state_of_mode (running_at M (now ∷ before) q) (joiner_at M (now ∷ before) q) (mode_at_end M.return_after b (is_whole q (now ∷ before)) up)) (sym is)
+      ∙ ap (λ b. state_of_mode (running_at M (now ∷ before) q) (joiner_at M (now ∷ before) q)
+      (mode_at_end M.return_after b (is_whole q (now ∷ before)) up)) (sym is)
 
   -- a whole channel takes the ideal context and the control of the next cycle
-  word_is : has now.joined q ≡ true → control_of_word (control_after M (now ∷ before)) ≡ control_after_past M (now ∷ before)
+  word_is : has now.joined q ≡ true →
+      control_of_word (control_after M (now ∷ before)) ≡ control_after_past M (now ∷ before)
   unfolding control_of_word
-  word_is h = ap (λ t. record (control_after_past M (now ∷ before)) { sweeping = option_map (sweeping_of M (now ∷ before)) t }) (sym (over now.joined q now.transfer h))
+  word_is h = ap (λ t. record (control_after_past M (now ∷ before)) {
+    sweeping =
+        option_map (sweeping_of M (now ∷ before)) t;
+  }) (sym (over now.joined q now.transfer h))
 
   abbrev word_or : Option ControlWordValue → ControlWordValue → ControlWordValue
   word_or None w = w
   word_or (Some x) w = x
 
-  whole_by : (content : Option FinalValue) → content_taken M q before now ≡ content → TakesIdeal M before now q → is_whole q (now ∷ before) ≡ true → Ends joining
-  whole_by None is takes whole = absurd (none (sym (ap (option_map (λ (f : FinalValue). f.control)) is) ∙ takes.control))
+  whole_by : (content : Option FinalValue) → content_taken M q before now ≡ content → TakesIdeal M before now q →
+      is_whole q (now ∷ before) ≡ true → Ends joining
+  whole_by None is takes whole =
+      absurd (none (sym (ap (option_map (λ (f : FinalValue). f.control)) is) ∙ takes.control))
     where
       none : None ≡ Some (control_after M (now ∷ before)) → ⊥
       none h = cc
   whole_by (Some content) is takes whole =
-      let joined : has now.joined q ≡ true = (both (has now.joined q) (joins_since q (start_of now.transfer) (now ∷ before)) whole).0 in
+      let joined : has now.joined q ≡ true =
+      (both (has now.joined q) (joins_since q (start_of now.transfer) (now ∷ before)) whole).0 in
       let swept : JoinerValue = joiner_swept M before now q in
       let ctx : with_copies content.copies swept.replica.blocks ≡ now.ideal_context =
-      ap context_or_none (sym (ap (option_map (λ (f : FinalValue). with_copies f.copies (replica_after M q (now ∷ before)).blocks)) is) ∙ takes.context) in
+      ap context_or_none (sym (ap
+      (option_map (λ (f : FinalValue). with_copies f.copies (replica_after M q (now ∷ before)).blocks)) is)
+      ∙ takes.context) in
       let control : control_of_word content.control ≡ control_after_past M (now ∷ before) =
-      ap control_of_word (ap (λ o. word_or o content.control) (sym (ap (option_map (λ (f : FinalValue). f.control)) is) ∙ takes.control)) ∙ word_is joined in
+      ap control_of_word (ap (λ o. word_or o content.control)
+      (sym (ap (option_map (λ (f : FinalValue). f.control)) is) ∙ takes.control)) ∙ word_is joined in
       let R : ContextValue → ControlValue → StateValue =
-      λ x k. running (record { held = record { context = x; control = k; accused = []; heard = no_codes }; progress = no_progress }) in
+      λ x k. running (record {
+        held = record { context = x; control = k; accused = []; heard = no_codes };
+        progress = no_progress;
+      }) in
       let H : Bool → Bool → StateValue =
       λ whole joined. running (record {
         held = record {
@@ -184,19 +216,26 @@ module _ (M : MissionValue) (L : Log) (n : ℕ) (steps : Steps) (q : Channel) (m
       ∙ ap (R now.ideal_context) control
       ∙ ap (λ b. H b true) (sym whole)
       ∙ ap (H (is_whole q (now ∷ before))) (sym joined)
-      ∙ ap (λ b. state_of_mode (running_at M (now ∷ before) q) (joiner_at M (now ∷ before) q) (mode_at_end M.return_after on b joining)) (sym whole)
+      ∙ ap (λ b. state_of_mode (running_at M (now ∷ before) q) (joiner_at M (now ∷ before) q)
+      (mode_at_end M.return_after on b joining)) (sym whole)
 
   other_by : mode_in now q Switch ≡ joining → is_whole q (now ∷ before) ≡ false → Ends joining
   other_by h whole =
       let joins : is_joining (mode_in now q Switch) ≡ true = ap is_joining h in
       let none : content_taken M q before now ≡ None = (run_only_whole M L (suc n) mission more run).0 q joins whole in
-      let J : Bool → StateValue = λ b. returning (record { replica = cond b (replica_after M q (now ∷ before)) (empty_replica M.rules.blocks); taken = None }) in
+      let J : Bool → StateValue =
+      λ b. returning (record {
+        replica = cond b (replica_after M q (now ∷ before)) (empty_replica M.rules.blocks);
+        taken = None;
+      }) in
       ap (λ o. between_cycles (ended_state on (returning (with_content o (joiner_swept M before now q))))) none
       ∙ ap J (sym joins)
-      ∙ ap (λ b. state_of_mode (running_at M (now ∷ before) q) (joiner_at M (now ∷ before) q) (mode_at_end M.return_after on b joining)) (sym whole)
+      ∙ ap (λ b. state_of_mode (running_at M (now ∷ before) q) (joiner_at M (now ∷ before) q)
+      (mode_at_end M.return_after on b joining)) (sym whole)
 
   ends_joining : mode_in now q Switch ≡ joining → (b : Bool) → is_whole q (now ∷ before) ≡ b → Ends joining
-  ends_joining h true whole = whole_by (content_taken M q before now) refl ((run_restores M L (suc n) mission more run).0 q whole) whole
+  ends_joining h true whole =
+      whole_by (content_taken M q before now) refl ((run_restores M L (suc n) mission more run).0 q whole) whole
   ends_joining h false whole = other_by h whole
 
   ends_by : (m : ModeValue) → mode_in now q Switch ≡ m → Ends m
@@ -205,12 +244,19 @@ module _ (M : MissionValue) (L : Log) (n : ℕ) (steps : Steps) (q : Channel) (m
   ends_by (waiting k) h = refl
   ends_by joining h = ends_joining h (is_whole q (now ∷ before)) refl
 
-  pub ends : between_cycles (ended_state on (state_in M before now steps Switch (stage_after Switch) q)) ≡ state_at M (now ∷ before) q
+  pub ends : between_cycles (ended_state on (state_in M before now steps Switch (stage_after Switch) q))
+      ≡ state_at M (now ∷ before) q
   unfolding state_in
   ends = with_mode (mode_in now q Switch) refl
     where
-      with_mode : (m : ModeValue) → mode_in now q Switch ≡ m → between_cycles (ended_state on (state_of_mode (running_value_in M before now steps (stage_after Switch) q) (joiner_in M before now (stage_after Switch) q) (mode_in now q Switch))) ≡ state_at M (now ∷ before) q
+      with_mode : (m : ModeValue) → mode_in now q Switch ≡ m →
+          between_cycles (ended_state on
+          (state_of_mode (running_value_in M before now steps (stage_after Switch) q)
+          (joiner_in M before now (stage_after Switch) q) (mode_in now q Switch))) ≡ state_at M (now ∷ before) q
       with_mode m h =
-          ap (λ x. between_cycles (ended_state on (state_of_mode (running_value_in M before now steps (stage_after Switch) q) (joiner_in M before now (stage_after Switch) q) x))) h
+          ap (λ x. between_cycles (ended_state on
+          (state_of_mode (running_value_in M before now steps (stage_after Switch) q)
+          (joiner_in M before now (stage_after Switch) q) x))) h
           ∙ ends_by m h
-          ∙ ap (λ x. state_of_mode (running_at M (now ∷ before) q) (joiner_at M (now ∷ before) q) (mode_at_end M.return_after on (is_whole q (now ∷ before)) x)) (sym h)
+          ∙ ap (λ x. state_of_mode (running_at M (now ∷ before) q) (joiner_at M (now ∷ before) q)
+          (mode_at_end M.return_after on (is_whole q (now ∷ before)) x)) (sym h)

@@ -30,12 +30,14 @@ abbrev with_hearing : List ℕ → RunningValue → RunningValue
 with_hearing codes r = record r { progress = record r.progress { hearing = codes } }
 
 one_heard : (o : Option (Option ℕ)) (j : Channel) (codes : List ℕ) (r : RunningValue) → slice_set codes j 0 ≡ codes →
-    heard_if o j (with_hearing codes r) ≡ with_hearing (slice_set codes j (request_code (transfer_in r.control.sweeping) j o)) r
+    heard_if o j (with_hearing codes r)
+    ≡ with_hearing (slice_set codes j (request_code (transfer_in r.control.sweeping) j o)) r
 one_heard None j codes r h = ap (λ x. with_hearing x r) (sym h)
 one_heard (Some have) j codes r h = refl
 
 all_heard : (got : Channel → Option (Option ℕ)) (r : RunningValue) →
-    after_requests got every_channel (with_hearing no_codes r) ≡ with_hearing (by_channel (λ j. request_code (transfer_in r.control.sweeping) j (got j))) r
+    after_requests got every_channel (with_hearing no_codes r)
+    ≡ with_hearing (by_channel (λ j. request_code (transfer_in r.control.sweeping) j (got j))) r
 unfolding by_channel
 all_heard got r =
     let f : Channel → ℕ = λ j. request_code (transfer_in r.control.sweeping) j (got j) in
@@ -47,7 +49,8 @@ all_heard got r =
     ∙ ap (after_requests got (6 ∷ [])) (one_heard (got 5) 5 (f 0 ∷ f 1 ∷ f 2 ∷ f 3 ∷ f 4 ∷ 0 ∷ 0 ∷ []) r refl)
     ∙ one_heard (got 6) 6 (f 0 ∷ f 1 ∷ f 2 ∷ f 3 ∷ f 4 ∷ f 5 ∷ 0 ∷ []) r refl
 
-runs_are : (M : MissionValue) (past : Past) (t : Option TransferValue) → transfer_in (option_map (sweeping_of M past) t) ≡ t
+runs_are : (M : MissionValue) (past : Past) (t : Option TransferValue) →
+    transfer_in (option_map (sweeping_of M past) t) ≡ t
 runs_are M past None = refl
 runs_are M past (Some t) = refl
 
@@ -56,18 +59,30 @@ unfolding cycle_from cycle_start_of
 running_is M L past = refl
 
 pub hears : (M : MissionValue) (L : Log) (past : Past) (steps : Steps) (q : Channel) → q < 7 →
-    after_requests (λ j. have_of (received_body M (next_cycle M L past).entries (length past) Request j q)) every_channel (running_value_in M past (next_cycle M L past) steps (stage_before Request) q)
+    after_requests (λ j. have_of (received_body M (next_cycle M L past).entries (length past) Request j q))
+    every_channel (running_value_in M past (next_cycle M L past) steps (stage_before Request) q)
     ≡ running_value_in M past (next_cycle M L past) steps (stage_before Round1) q
 hears M L past steps q low =
     let e = next_cycle M L past in
     let got : Channel → Option (Option ℕ) = λ j. have_of (received_body M e.entries (length past) Request j q) in
     let H : List ℕ → Received → RunningValue =
-    λ codes received. record { held = held_in M past e (stage_before Request) q; progress = record { hearing = codes; tree = Some (tree_of e.active q M.width (source_word M past q) received); decided = None; worked = None; closed = None } } in
+    λ codes received. record {
+      held = held_in M past e (stage_before Request) q;
+      progress = record {
+        hearing = codes;
+        tree = Some (tree_of e.active q M.width (source_word M past q) received);
+        decided = None;
+        worked = None;
+        closed = None;
+      };
+    } in
     let C : Option TransferValue → List ℕ = λ t. by_channel (λ j. request_code t j (got j)) in
     all_heard got (running_value_in M past e steps (stage_before Request) q)
-    ∙ ap (λ t. H (C t) (received_through M past e (stage_before Request) q)) (runs_are M past (running_transfer past) ∙ sym (running_is M L past))
+    ∙ ap (λ t. H (C t) (received_through M past e (stage_before Request) q))
+    (runs_are M past (running_transfer past) ∙ sym (running_is M L past))
     ∙ ap (λ codes. H codes (received_through M past e (stage_before Request) q)) (sym (heard-is M L past q low))
-    ∙ ap (H (place_or e.request_codes q [])) (nothing_yet M past e q 0 (omega arith) ∙ sym (nothing_yet M past e q 1 (omega arith)))
+    ∙ ap (H (place_or e.request_codes q []))
+    (nothing_yet M past e q 0 (omega arith) ∙ sym (nothing_yet M past e q 1 (omega arith)))
 
 -- ---- a round
 
@@ -102,7 +117,8 @@ module _ (round : ℕ) (items : Channel → List ItemValue) where
   round_at [] received r j = none_at (r == round) j (received r j)
   round_at (x ∷ js) received r j =
       round_at js (with_items round x (items x) received) r j
-      ∙ ap (λ b. cond (r == round && has js j) (items j) (cond (r == round && b) (items x) (received r j))) (either_way j x)
+      ∙ ap (λ b. cond (r == round && has js j) (items j) (cond (r == round && b) (items x) (received r j)))
+      (either_way j x)
       ∙ next_at (r == round) (x == j) (has js j) x j (received r j) refl
 
 lt_other : (r round : ℕ) → (r == round) ≡ false → nat_lt r (suc round) ≡ nat_lt r round
@@ -119,50 +135,75 @@ module _ (M : MissionValue) (past : Past) (e : Cycle) (q : Channel) where
   same_members false false = refl
 
   others : (j : Channel) → has (without e.active (q ∷ [])) j ≡ (has e.active j && not (j == q))
-  others j = has-filter (λ p. not (has (q ∷ []) p)) e.active j ∙ same_members (has e.active j) (q == j) ∙ ap (λ b. has e.active j && not b) (either_way q j)
+  others j = has-filter (λ p. not (has (q ∷ []) p)) e.active j ∙ same_members (has e.active j) (q == j)
+      ∙ ap (λ b. has e.active j && not b) (either_way q j)
 
-  this_round : (members below above : Bool) (x : List ItemValue) → below ≡ false → above ≡ true → cond members x (cond ((below && true) && members) x []) ≡ cond ((above && true) && members) x []
+  this_round : (members below above : Bool) (x : List ItemValue) → below ≡ false → above ≡ true →
+      cond members x (cond ((below && true) && members) x []) ≡ cond ((above && true) && members) x []
   this_round true below above x h k = rw k refl
   this_round false below above x h k = rw (h, k) refl
 
   -- the exchanges of the other members
   pub receives : (round : ℕ) → 1 ≤ round → is_round e round ≡ true →
-      with_round round (items_of_round round) (without e.active (q ∷ [])) (received_through M past e round q) ≡ received_through M past e (suc round) q
+      with_round round (items_of_round round) (without e.active (q ∷ [])) (received_through M past e round q)
+      ≡ received_through M past e (suc round) q
   receives round some there = fun_ext (λ r. fun_ext (λ j. at r j (r == round) refl))
     where
       at : (r : ℕ) (j : Channel) (same : Bool) → (r == round) ≡ same →
-          with_round round (items_of_round round) (without e.active (q ∷ [])) (received_through M past e round q) r j ≡ received_through M past e (suc round) q r j
+          with_round round (items_of_round round) (without e.active (q ∷ [])) (received_through M past e round q) r j
+          ≡ received_through M past e (suc round) q r j
       at zero j true h = absurd (omega (arith, some, eqb-true 0 round h))
-      at zero j false h = round_at round (items_of_round round) (without e.active (q ∷ [])) (received_through M past e round q) zero j ∙ ap (λ b. cond (b && has (without e.active (q ∷ [])) j) (items_of_round round j) []) h
+      at zero j false h = round_at round (items_of_round round) (without e.active (q ∷ []))
+          (received_through M past e round q) zero j
+          ∙ ap (λ b. cond (b && has (without e.active (q ∷ [])) j) (items_of_round round j) []) h
       at (suc r) j false h =
-          round_at round (items_of_round round) (without e.active (q ∷ [])) (received_through M past e round q) (suc r) j
-          ∙ ap (λ b. cond (b && has (without e.active (q ∷ [])) j) (items_of_round round j) (received_through M past e round q (suc r) j)) h
-          ∙ ap (λ b. cond ((b && is_round e (suc r)) && (has e.active j && not (j == q))) (items_of_round (suc r) j) []) (sym (lt_other (suc r) round h))
+          round_at round (items_of_round round) (without e.active (q ∷ [])) (received_through M past e round q) (suc r)
+          j
+          ∙ ap (λ b. cond (b && has (without e.active (q ∷ [])) j) (items_of_round round j)
+          (received_through M past e round q (suc r) j)) h
+          ∙ ap (λ b. cond ((b && is_round e (suc r)) && (has e.active j && not (j == q))) (items_of_round (suc r) j) [])
+          (sym (lt_other (suc r) round h))
       at (suc r) j true h =
           let k : suc r ≡ round = eqb-true (suc r) round h in
-          round_at round (items_of_round round) (without e.active (q ∷ [])) (received_through M past e round q) (suc r) j
-          ∙ ap (λ b. cond (b && has (without e.active (q ∷ [])) j) (items_of_round round j) (received_through M past e round q (suc r) j)) h
+          round_at round (items_of_round round) (without e.active (q ∷ [])) (received_through M past e round q) (suc r)
+          j
+          ∙ ap (λ b. cond (b && has (without e.active (q ∷ [])) j) (items_of_round round j)
+          (received_through M past e round q (suc r) j)) h
           ∙ ap (λ b. cond b (items_of_round round j) (received_through M past e round q (suc r) j)) (others j)
-          ∙ ap (λ x. cond (has e.active j && not (j == q)) (items_of_round x j) (cond ((nat_lt (suc r) round && is_round e (suc r)) && (has e.active j && not (j == q))) (items_of_round (suc r) j) [])) (sym k)
-          ∙ ap (λ b. cond (has e.active j && not (j == q)) (items_of_round (suc r) j) (cond ((nat_lt (suc r) round && b) && (has e.active j && not (j == q))) (items_of_round (suc r) j) [])) (ap (is_round e) k ∙ there)
-          ∙ this_round (has e.active j && not (j == q)) (nat_lt (suc r) round) (nat_lt (suc r) (suc round)) (items_of_round (suc r) j) (grind (arith, k)) (grind (arith, k))
-          ∙ ap (λ b. cond ((nat_lt (suc r) (suc round) && b) && (has e.active j && not (j == q))) (items_of_round (suc r) j) []) (sym (ap (is_round e) k ∙ there))
+          ∙ ap (λ x. cond (has e.active j && not (j == q)) (items_of_round x j)
+          (cond ((nat_lt (suc r) round && is_round e (suc r)) && (has e.active j && not (j == q)))
+          (items_of_round (suc r) j) [])) (sym k)
+          ∙ ap (λ b. cond (has e.active j && not (j == q)) (items_of_round (suc r) j)
+          (cond ((nat_lt (suc r) round && b) && (has e.active j && not (j == q))) (items_of_round (suc r) j) []))
+          (ap (is_round e) k ∙ there)
+          ∙ this_round (has e.active j && not (j == q)) (nat_lt (suc r) round) (nat_lt (suc r) (suc round))
+          (items_of_round (suc r) j) (grind (arith, k)) (grind (arith, k))
+          ∙ ap (λ b. cond ((nat_lt (suc r) (suc round) && b) && (has e.active j && not (j == q)))
+          (items_of_round (suc r) j) []) (sym (ap (is_round e) k ∙ there))
 
-  no_change : (below above : Bool) (members : Bool) (x : List ItemValue) → cond ((below && false) && members) x [] ≡ cond ((above && false) && members) x []
+  no_change : (below above : Bool) (members : Bool) (x : List ItemValue) →
+      cond ((below && false) && members) x [] ≡ cond ((above && false) && members) x []
   no_change true true members x = refl
   no_change true false members x = refl
   no_change false true members x = refl
   no_change false false members x = refl
 
   -- nothing is received in a round that there is not
-  pub none_received : (round : ℕ) → is_round e round ≡ false → received_through M past e round q ≡ received_through M past e (suc round) q
+  pub none_received : (round : ℕ) → is_round e round ≡ false →
+      received_through M past e round q ≡ received_through M past e (suc round) q
   none_received round absent = fun_ext (λ r. fun_ext (λ j. at r j (r == round) refl))
     where
-      at : (r : ℕ) (j : Channel) (same : Bool) → (r == round) ≡ same → received_through M past e round q r j ≡ received_through M past e (suc round) q r j
+      at : (r : ℕ) (j : Channel) (same : Bool) → (r == round) ≡ same →
+          received_through M past e round q r j ≡ received_through M past e (suc round) q r j
       at zero j same h = refl
-      at (suc r) j false h = ap (λ b. cond ((b && is_round e (suc r)) && (has e.active j && not (j == q))) (items_of_round (suc r) j) []) (sym (lt_other (suc r) round h))
+      at (suc r) j false h = ap
+          (λ b. cond ((b && is_round e (suc r)) && (has e.active j && not (j == q))) (items_of_round (suc r) j) [])
+          (sym (lt_other (suc r) round h))
       at (suc r) j true h =
           let gone : is_round e (suc r) ≡ false = ap (is_round e) (eqb-true (suc r) round h) ∙ absent in
-          ap (λ b. cond ((nat_lt (suc r) round && b) && (has e.active j && not (j == q))) (items_of_round (suc r) j) []) gone
-          ∙ no_change (nat_lt (suc r) round) (nat_lt (suc r) (suc round)) (has e.active j && not (j == q)) (items_of_round (suc r) j)
-          ∙ ap (λ b. cond ((nat_lt (suc r) (suc round) && b) && (has e.active j && not (j == q))) (items_of_round (suc r) j) []) (sym gone)
+          ap (λ b. cond ((nat_lt (suc r) round && b) && (has e.active j && not (j == q))) (items_of_round (suc r) j) [])
+          gone
+          ∙ no_change (nat_lt (suc r) round) (nat_lt (suc r) (suc round)) (has e.active j && not (j == q))
+          (items_of_round (suc r) j)
+          ∙ ap (λ b. cond ((nat_lt (suc r) (suc round) && b) && (has e.active j && not (j == q)))
+          (items_of_round (suc r) j) []) (sym gone)

@@ -30,7 +30,8 @@ all_of_flat P Q f (x ∷ xs) h k =
     let parts = both (Q x) (list_all Q xs) h in
     all-append P (f x) (flat_map f xs) (k x parts.0) (all_of_flat P Q f xs parts.1 k)
 
-all_on : {A B : Type 0} (P : B → Bool) (Q : A → Bool) (f : A → B) (xs : List A) → list_all Q xs ≡ true → ((x : A) → Q x ≡ true → P (f x) ≡ true) → list_all P (map f xs) ≡ true
+all_on : {A B : Type 0} (P : B → Bool) (Q : A → Bool) (f : A → B) (xs : List A) → list_all Q xs ≡ true →
+    ((x : A) → Q x ≡ true → P (f x) ≡ true) → list_all P (map f xs) ≡ true
 all_on P Q f [] h k = refl
 all_on P Q f (x ∷ xs) h k =
     let parts = both (Q x) (list_all Q xs) h in
@@ -44,7 +45,8 @@ or_left : (a b : Bool) → a ≡ true → (a || b) ≡ true
 or_left true b h = refl
 or_left false b h = absurd cc
 
-all_weaken : {A : Type 0} (P Q : A → Bool) (xs : List A) → ((x : A) → P x ≡ true → Q x ≡ true) → list_all P xs ≡ true → list_all Q xs ≡ true
+all_weaken : {A : Type 0} (P Q : A → Bool) (xs : List A) → ((x : A) → P x ≡ true → Q x ≡ true) → list_all P xs ≡ true →
+    list_all Q xs ≡ true
 all_weaken P Q [] f h = refl
 all_weaken P Q (x ∷ xs) f h =
     let parts = both (P x) (list_all P xs) h in
@@ -63,56 +65,71 @@ next_within active y = all-filter (has active) (λ q. not (has y q)) active (all
 paths_within : (active : ChannelSet) (k : ℕ) → list_all (is_of active k) (paths active k) ≡ true
 paths_within active zero = refl
 paths_within active (suc k) =
-    all_of_flat (is_of active (suc k)) (is_of active k) (λ y. map (λ j. j ∷ y) (without active y)) (paths active k) (paths_within active k)
+    all_of_flat (is_of active (suc k)) (is_of active k) (λ y. map (λ j. j ∷ y) (without active y)) (paths active k)
+    (paths_within active k)
     (λ y h.
     let parts = both (length y == k) (is_within active y) h in
     all_on (is_of active (suc k)) (has active) (λ j. j ∷ y) (without active y) (next_within active y)
     (λ j there. two_true (suc (length y) == suc k) (has active j && is_within active y)
-    (eq-eqb (suc (length y)) (suc k) (ap suc (eqb-true (length y) k parts.0))) (two_true (has active j) (is_within active y) there parts.1)))
+    (eq-eqb (suc (length y)) (suc k) (ap suc (eqb-true (length y) k parts.0)))
+    (two_true (has active j) (is_within active y) there parts.1)))
 
-pub map_on : {A B : Type 0} (P : A → Bool) (f g : A → B) (xs : List A) → list_all P xs ≡ true → ((x : A) → P x ≡ true → f x ≡ g x) → map f xs ≡ map g xs
+pub map_on : {A B : Type 0} (P : A → Bool) (f g : A → B) (xs : List A) → list_all P xs ≡ true →
+    ((x : A) → P x ≡ true → f x ≡ g x) → map f xs ≡ map g xs
 map_on P f g [] h k = refl
 map_on P f g (x ∷ xs) h k =
     let parts = both (P x) (list_all P xs) h in
     ap (λ y. y ∷ map f xs) (k x parts.0) ∙ ap (λ ys. g x ∷ ys) (map_on P f g xs parts.1 k)
 
-cond_same : {A : Type 0} (b : Bool) (x x' y y' : A) → (b ≡ true → x ≡ x') → (b ≡ false → y ≡ y') → cond b x y ≡ cond b x' y'
+cond_same : {A : Type 0} (b : Bool) (x x' y y' : A) → (b ≡ true → x ≡ x') → (b ≡ false → y ≡ y') →
+    cond b x y ≡ cond b x' y'
 cond_same true x x' y y' f g = f refl
 cond_same false x x' y y' f g = g refl
 
 module _ (active : ChannelSet) (width : ℕ) (me : Channel) (own : SourceValue) (a b : Received) (n : ℕ)
     (same : (r : ℕ) (j : Channel) → 1 ≤ r → r ≤ n → has active j ≡ true → (j == me) ≡ false → a r j ≡ b r j) where
-  held_same : (y : PathValue) → length y ≤ n → is_within active y ≡ true → held_value active width me own a y ≡ held_value active width me own b y
+  held_same : (y : PathValue) → length y ≤ n → is_within active y ≡ true →
+      held_value active width me own a y ≡ held_value active width me own b y
   held_same [] short within = refl
   held_same (j ∷ y) short within =
       let parts = both (has active j) (is_within active y) within in
       cond_same (j == me) (held_value active width me own a y) (held_value active width me own b y)
       (word_for width (reverse y) (a (length (j ∷ y)) j)) (word_for width (reverse y) (b (length (j ∷ y)) j))
       (λ mine. held_same y (omega (arith, short)) parts.1)
-      (λ other. ap (λ items. word_for width (reverse y) items) (same (length (j ∷ y)) j (omega arith) short parts.0 other))
+      (λ other. ap (λ items. word_for width (reverse y) items)
+      (same (length (j ∷ y)) j (omega arith) short parts.0 other))
 
-  pub owed_same : (round : ℕ) → round - 1 ≤ n → items_owed active width me own a round ≡ items_owed active width me own b round
+  pub owed_same : (round : ℕ) → round - 1 ≤ n →
+      items_owed active width me own a round ≡ items_owed active width me own b round
   owed_same round few =
       map_on (is_of active (round - 1))
-      (λ y. record { path = reverse y; word = held_value active width me own a y }) (λ y. record { path = reverse y; word = held_value active width me own b y })
+      (λ y. record { path = reverse y; word = held_value active width me own a y })
+      (λ y. record { path = reverse y; word = held_value active width me own b y })
       (filter (λ y. not (has y me)) (paths active (round - 1)))
-      (all-filter (is_of active (round - 1)) (λ y. not (has y me)) (paths active (round - 1)) (paths_within active (round - 1)))
+      (all-filter (is_of active (round - 1)) (λ y. not (has y me)) (paths active (round - 1))
+      (paths_within active (round - 1)))
       (λ y h.
       let parts = both (length y == round - 1) (is_within active y) h in
       let size : length y ≡ round - 1 = eqb-true (length y) (round - 1) parts.0 in
       let I : Option SourceValue → ItemValue = λ w. record { path = reverse y; word = w } in
       ap I (held_same y (omega (arith, size, few)) parts.1))
 
-  resolved_same : (k : ℕ) (y : PathValue) → length y + k ≤ n → is_within active y ≡ true → resolved_value active width me own a k y ≡ resolved_value active width me own b k y
+  resolved_same : (k : ℕ) (y : PathValue) → length y + k ≤ n → is_within active y ≡ true →
+      resolved_value active width me own a k y ≡ resolved_value active width me own b k y
   resolved_same zero y few within = held_same y (omega (arith, few)) within
   resolved_same (suc k) y few within =
       ap majority_value
-      (map_on (has active) (λ j. resolved_value active width me own a k (j ∷ y)) (λ j. resolved_value active width me own b k (j ∷ y)) (without active y) (next_within active y)
-      (λ j there. resolved_same k (j ∷ y) (omega (arith, few)) (two_true (has active j) (is_within active y) there within)))
+      (map_on (has active) (λ j. resolved_value active width me own a k (j ∷ y))
+      (λ j. resolved_value active width me own b k (j ∷ y)) (without active y) (next_within active y)
+      (λ j there. resolved_same k (j ∷ y) (omega (arith, few))
+      (two_true (has active j) (is_within active y) there within)))
 
   pub agreed_same : tolerated_faults active + 1 ≤ n → agreed_by active width me own a ≡ agreed_by active width me own b
   agreed_same few =
-      by_channel-same (λ s. cond (has active s) (resolved_value active width me own a (tolerated_faults active) (s ∷ [])) None)
+      by_channel-same (λ s. cond (has active s)
+      (resolved_value active width me own a (tolerated_faults active) (s ∷ [])) None)
       (λ s. cond (has active s) (resolved_value active width me own b (tolerated_faults active) (s ∷ [])) None)
-      (λ s low. cond_same (has active s) (resolved_value active width me own a (tolerated_faults active) (s ∷ [])) (resolved_value active width me own b (tolerated_faults active) (s ∷ [])) None None
-      (λ there. resolved_same (tolerated_faults active) (s ∷ []) (omega (arith, few)) (two_true (has active s) true there refl)) (λ h. refl))
+      (λ s low. cond_same (has active s) (resolved_value active width me own a (tolerated_faults active) (s ∷ []))
+      (resolved_value active width me own b (tolerated_faults active) (s ∷ [])) None None
+      (λ there. resolved_same (tolerated_faults active) (s ∷ []) (omega (arith, few))
+      (two_true (has active s) true there refl)) (λ h. refl))

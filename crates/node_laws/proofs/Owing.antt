@@ -29,7 +29,8 @@ module _ (M : MissionValue) (past : Past) (e : Cycle) (steps : Steps) (q : Chann
     (active : (slot : Slot) → mode_in e q slot ≡ up → has e.active q ≡ true) where
   abbrev OwesTo : Slot → ℕ → Type 0
   OwesTo slot to =
-      body_of M (received_through M past e (stage_before slot) q) slot to (state_in M past e steps slot (stage_before slot) q)
+      body_of M (received_through M past e (stage_before slot) q) slot to
+      (state_in M past e steps slot (stage_before slot) q)
       ≡ body_due M past e steps slot q to
 
   -- ---- a joining channel
@@ -45,23 +46,31 @@ module _ (M : MissionValue) (past : Past) (e : Cycle) (steps : Steps) (q : Chann
   -- ---- the rounds
 
   -- in a round a member holds what it received in the rounds before
-  earlier : (round r : ℕ) (j : Channel) → is_round e round ≡ true → 1 ≤ r → r ≤ round - 1 → has e.active j ≡ true → (j == q) ≡ false →
+  earlier : (round r : ℕ) (j : Channel) → is_round e round ≡ true → 1 ≤ r → r ≤ round - 1 → has e.active j ≡ true →
+      (j == q) ≡ false →
       received_through M past e round q r j ≡ items_in (received_items M e.entries (length past) q) r j
   earlier round zero j there low high active_j other = absurd (omega (arith, low))
   earlier round (suc r) j there low high active_j other =
       let before : nat_lt (suc r) round ≡ true = lt-ltb (suc r) round (omega (arith, low, high)) in
-      let within : is_round e (suc r) ≡ true = le-leb (suc r) (tolerated_faults e.active + 1) (omega (arith, leb-true round (tolerated_faults e.active + 1) there, low, high)) in
+      let within : is_round e (suc r) ≡ true =
+      le-leb (suc r) (tolerated_faults e.active + 1)
+      (omega (arith, leb-true round (tolerated_faults e.active + 1) there, low, high)) in
       rw (before, within, active_j, other) refl
 
   exchanges : (round : ℕ) → is_round e round ≡ true →
-      exchange_body (record { round = round; items = items_owed e.active M.width q (source_word M past q) (received_through M past e round q) round })
+      exchange_body (record {
+        round = round;
+        items = items_owed e.active M.width q (source_word M past q) (received_through M past e round q) round;
+      })
       ≡ exchange_of M past e round q
   exchanges round there =
       ap (λ (items : List ItemValue). exchange_body (record { round = round; items = items }))
-      (owed_same e.active M.width q (source_word M past q) (received_through M past e round q) (items_in (received_items M e.entries (length past) q)) (round - 1)
+      (owed_same e.active M.width q (source_word M past q) (received_through M past e round q)
+      (items_in (received_items M e.entries (length past) q)) (round - 1)
       (λ r j low high active_j other. earlier round r j there low high active_j other) round (omega arith))
 
-  when : (b : Bool) (x y : BodyValue) → (b ≡ true → x ≡ y) → (if b then Some x else None) ≡ (if (b && true) then Some y else None)
+  when : (b : Bool) (x y : BodyValue) → (b ≡ true → x ≡ y) →
+      (if b then Some x else None) ≡ (if (b && true) then Some y else None)
   when true x y h = ap (λ z. Some z) (h refl)
   when false x y h = refl
 
@@ -134,7 +143,8 @@ module _ (M : MissionValue) (past : Past) (e : Cycle) (steps : Steps) (q : Chann
 
   -- ---- each slot
 
-  pub owes : (carried_over M.rules.blocks q past (replica_after M q past)).have ≡ held_start q past → (slot : Slot) (to : ℕ) → OwesTo slot to
+  pub owes : (carried_over M.rules.blocks q past (replica_after M q past)).have ≡ held_start q past →
+      (slot : Slot) (to : ℕ) → OwesTo slot to
   owes own Request to = request_by to own (mode_in e q Request) refl
   owes own Round1 to = first_by to (mode_in e q Round1) refl
   owes own Round2 to = second_by to (mode_in e q Round2) refl
@@ -147,11 +157,14 @@ module _ (M : MissionValue) (past : Past) (e : Cycle) (steps : Steps) (q : Chann
   owes own Output to = refl
 
 -- a node's tree is made of what it received in the rounds that are done
-pub stands : (M : MissionValue) (past : Past) (e : Cycle) (steps : Steps) (slot : Slot) (done : ℕ) (q : Channel) → StandsFor (state_in M past e steps slot done q) (received_through M past e done q)
+pub stands : (M : MissionValue) (past : Past) (e : Cycle) (steps : Steps) (slot : Slot) (done : ℕ) (q : Channel) →
+    StandsFor (state_in M past e steps slot done q) (received_through M past e done q)
 unfolding state_in
 stands M past e steps slot done q = by (mode_in e q slot)
   where
-    by : (m : ModeValue) → StandsFor (state_of_mode (running_value_in M past e steps done q) (joiner_in M past e done q) m) (received_through M past e done q)
+    by : (m : ModeValue) → StandsFor
+        (state_of_mode (running_value_in M past e steps done q) (joiner_in M past e done q) m)
+        (received_through M past e done q)
     by up = refl
     by down = tt
     by (waiting n) = tt

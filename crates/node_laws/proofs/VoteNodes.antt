@@ -36,12 +36,18 @@ module _ (M : MissionValue) (L : Log) (n : ℕ) (steps : Steps) (mission : IsMis
   voted got are worked q low =
       ap (node_with M q)
       (running_step_up (after_votes q M.outputs (ballots_arrived got q))
-      (running_value_in M past e steps (stage_before Vote) q) (running_value_in M past e steps (stage_before Sweep) q) (joiner_in M past e (stage_before Vote) q) (joiner_in M past e (stage_before Sweep) q) (mode_in e q Vote)
+      (running_value_in M past e steps (stage_before Vote) q) (running_value_in M past e steps (stage_before Sweep) q)
+      (joiner_in M past e (stage_before Vote) q) (joiner_in M past e (stage_before Sweep) q) (mode_in e q Vote)
       (λ is. let held = worked q low is in
-      votes M L past steps q (controls_follow M L n) low (active_in M L n mission q low Vote is) held.0 held.1 (ballots_arrived got q)
-      (λ j small other. at-by_channel (λ p. ballot_of (got p q)) j None small ∙ ap ballot_of (are j q ∙ ap (λ c. received_body M e.entries c Vote j q) (sym size))))
+      votes M L past steps q (controls_follow M L n) low (active_in M L n mission q low Vote is) held.0 held.1
+      (ballots_arrived got q)
+      (λ j small other. at-by_channel (λ p. ballot_of (got p q)) j None small
+      ∙ ap ballot_of (are j q ∙ ap (λ c. received_body M e.entries c Vote j q) (sym size))))
       refl)
 
   pub all_voted : (got : Bodies) → AreArrivals M L n Vote got → HaveWorked M L n →
-      map (with_votes M got) (nodes_in M L n steps Vote (stage_before Vote)) ≡ nodes_in M L n steps Vote (stage_after Vote)
-  all_voted got are worked = each_node M (with_votes M got) (node_in M L n steps Vote (stage_before Vote)) (node_in M L n steps Vote (stage_after Vote)) mission (voted got are worked)
+      map (with_votes M got) (nodes_in M L n steps Vote (stage_before Vote))
+      ≡ nodes_in M L n steps Vote (stage_after Vote)
+  all_voted got are worked =
+      each_node M (with_votes M got) (node_in M L n steps Vote (stage_before Vote))
+      (node_in M L n steps Vote (stage_after Vote)) mission (voted got are worked)

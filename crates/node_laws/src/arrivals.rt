@@ -9,7 +9,8 @@ ghost use Rattle.guards_world.specs.Arrivals.{AreArrivals, HaveWorked};
 
 /// The exchanges that arrive in the slot of a round are of this round, and in the other slots none arrive.
 pub fn rounds_arrive()
-    ensures { (M : MissionValue) (L : Log) (n : ℕ) (slot : Slot) (got : Bodies) → AreArrivals M L n slot got → AreOfRound (round_number slot) got }
+    ensures { (M : MissionValue) (L : Log) (n : ℕ) (slot : Slot) (got : Bodies) → AreArrivals M L n slot got →
+        AreOfRound (round_number slot) got }
 {}
 
 /// Whatever the log holds, the channels that are up in the vote slot have a context after the writes.

@@ -32,7 +32,8 @@ pub fn crashes_fell()
         let e = cycle_at M L n in
         state_in M past e steps Request (stage_before Request) q
         ≡ (if is_down (mode_in e q Request) then fallen else state_at_opening M past e steps q) }
-    ensures later { (M : MissionValue) (L : Log) (n : ℕ) (steps : Steps) (before slot : Slot) (done : ℕ) (q : Channel) → q < 7 →
+    ensures later { (M : MissionValue) (L : Log) (n : ℕ) (steps : Steps) (before slot : Slot) (done : ℕ) (q : Channel) →
+        q < 7 →
         up_to before slot ≡ true → on_bus slot ≡ true →
         let past = cycles_before M L n in
         let e = cycle_at M L n in
@@ -45,17 +46,21 @@ pub fn cycles_are_closed()
     ensures state { (M : MissionValue) (L : Log) (n : ℕ) (steps : Steps) (q : Channel) →
         let past = cycles_before M L n in
         let e = cycle_at M L n in
-        after_close M.rules (written_blocks M (this_cycle past)) (kept_of e.decision e.inputs) (running_value_in M past e steps (stage_before Sweep) q)
+        after_close M.rules (written_blocks M (this_cycle past)) (kept_of e.decision e.inputs)
+        (running_value_in M past e steps (stage_before Sweep) q)
         ≡ running_value_in M past e steps (stage_before Final) q }
     ensures answer { (M : MissionValue) (L : Log) (n : ℕ) (q : Channel) →
         let past = cycles_before M L n in
         let e = cycle_at M L n in
-        closed_by M.rules.last (plan_in M.rules (held_in M past e (stage_before Sweep) q)) (written_blocks M (this_cycle past)) (held_in M past e (stage_before Sweep) q).control
+        closed_by M.rules.last (plan_in M.rules (held_in M past e (stage_before Sweep) q))
+        (written_blocks M (this_cycle past)) (held_in M past e (stage_before Sweep) q).control
         ≡ closed_of e }
     ensures last_copies { (M : MissionValue) (L : Log) (n : ℕ) (steps : Steps) (q : Channel) →
-        running_value_in M (cycles_before M L n) (cycle_at M L n) steps (stage_before Final) q ≡ running_value_in M (cycles_before M L n) (cycle_at M L n) steps (stage_before Switch) q }
+        running_value_in M (cycles_before M L n) (cycle_at M L n) steps (stage_before Final) q
+        ≡ running_value_in M (cycles_before M L n) (cycle_at M L n) steps (stage_before Switch) q }
     ensures switches { (M : MissionValue) (L : Log) (n : ℕ) (steps : Steps) (q : Channel) →
-        running_value_in M (cycles_before M L n) (cycle_at M L n) steps (stage_before Switch) q ≡ running_value_in M (cycles_before M L n) (cycle_at M L n) steps (stage_after Switch) q }
+        running_value_in M (cycles_before M L n) (cycle_at M L n) steps (stage_before Switch) q
+        ≡ running_value_in M (cycles_before M L n) (cycle_at M L n) steps (stage_after Switch) q }
 {}
 
 /// At the end of a cycle of a run the nodes that are switched off rest and those that took a final content rise: each
@@ -65,5 +70,6 @@ pub fn nodes_end_cycles()
         HasRun M L (suc n) → q < 7 →
         let past = cycles_before M L n in
         let e = cycle_at M L n in
-        between_cycles (ended_state (has (active_set M (e ∷ past)) q) (state_in M past e steps Switch (stage_after Switch) q)) ≡ state_at M (e ∷ past) q }
+        between_cycles (ended_state (has (active_set M (e ∷ past)) q)
+        (state_in M past e steps Switch (stage_after Switch) q)) ≡ state_at M (e ∷ past) q }
 {}

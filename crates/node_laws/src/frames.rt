@@ -20,8 +20,8 @@ pub fn nodes_stay()
         AreFromPlace n done new → node_in M (L ++ new) n steps slot done q ≡ node_in M L n steps slot done q }
 {}
 
-/// What a node owes in a slot, by its state and what it received, is what is due there; and it owes none exactly where none
-/// is due.
+/// What a node owes in a slot, by its state and what it received, is what is due there; and it owes none exactly where
+/// none is due.
 pub fn nodes_owe_due_frames()
     ensures stands { (M : MissionValue) (L : Log) (n : ℕ) (steps : Steps) (slot : Slot) (done : ℕ) (q : Channel) →
         let past = cycles_before M L n in

@@ -27,10 +27,11 @@ pub fn requests_are_heard()
         ≡ running_value_in M past e steps (stage_before Round1) q }
 {}
 
-/// The exchanges of the other members in a round, each received in turn, make the list that the facts name; where there is
-/// no such round, nothing is received.
+/// The exchanges of the other members in a round, each received in turn, make the list that the facts name; where there
+/// is no such round, nothing is received.
 pub fn exchanges_are_received()
-    ensures round { (M : MissionValue) (past : Past) (e : Cycle) (q : Channel) (round : ℕ) → 1 ≤ round → is_round e round ≡ true →
+    ensures round { (M : MissionValue) (past : Past) (e : Cycle) (q : Channel) (round : ℕ) → 1 ≤ round →
+        is_round e round ≡ true →
         with_round round (items_in (received_items M e.entries (this_cycle past) q) round) (without e.active (q ∷ []))
         (received_through M past e round q)
         ≡ received_through M past e (suc round) q }
@@ -47,7 +48,10 @@ pub fn nodes_decide()
         after_decision M.rules (this_cycle past) (received_through M past e (stage_before Tasks) q)
         (record {
           held = held_in M past e (stage_before Round3) q;
-          progress = record (progress_in M past e steps (stage_before Round3) q) { tree = Some (tree_value_in M past e (stage_before Tasks) q) };
+          progress = record (progress_in M past e steps (stage_before Round3) q) {
+            tree =
+                Some (tree_value_in M past e (stage_before Tasks) q);
+          };
         })
         ≡ running_value_in M past e steps (stage_before Tasks) q }
 {}
@@ -58,39 +62,48 @@ pub fn nodes_work()
     ensures origin { (M : MissionValue) (L : Log) (n : ℕ) (q : Channel) →
         let past = cycles_before M L n in
         let e = cycle_at M L n in
-        origin_by M.rules (cycle_writes M (this_cycle past)) (this_cycle past) (held_in M past e (stage_before Tasks) q) (kept_of e.decision e.inputs)
+        origin_by M.rules (cycle_writes M (this_cycle past)) (this_cycle past) (held_in M past e (stage_before Tasks) q)
+        (kept_of e.decision e.inputs)
         ≡ due_origin M past e q }
     ensures state { (M : MissionValue) (L : Log) (n : ℕ) (steps : Steps) (q : Channel) → q < 7 →
         let past = cycles_before M L n in
         let e = cycle_at M L n in
-        after_steps M.rules (cycle_writes M (this_cycle past)) (this_cycle past) (steps_of steps q) (kept_of e.decision e.inputs)
+        after_steps M.rules (cycle_writes M (this_cycle past)) (this_cycle past) (steps_of steps q)
+        (kept_of e.decision e.inputs)
         (running_value_in M past e steps (stage_before Tasks) q)
         ≡ running_value_in M past e steps (stage_before Vote) q }
 {}
 
 /// With the ballots that count at it, it keeps the accusations of the facts, and its line is the one of the report.
 pub fn votes_are_taken()
-    ensures state { (M : MissionValue) (L : Log) (n : ℕ) (steps : Steps) (q : Channel) (ctx : ContextValue) (ballots : Ballots) →
+    ensures state { (M : MissionValue) (L : Log) (n : ℕ) (steps : Steps) (q : Channel) (ctx : ContextValue)
+        (ballots : Ballots) →
         let past = cycles_before M L n in
         let e = cycle_at M L n in
         q < 7 → has e.active q ≡ true → place_or e.contexts_after q None ≡ Some ctx →
         ((j : Channel) → j < 7 → (j == q) ≡ false →
         place_or ballots j None ≡ ballot_of (received_body M e.entries (this_cycle past) Vote j q)) →
-        after_votes q M.outputs ballots (running_value_in M past e steps (stage_before Vote) q) ≡ running_value_in M past e steps (stage_before Sweep) q }
-    ensures line { (M : MissionValue) (L : Log) (n : ℕ) (steps : Steps) (q : Channel) (ctx : ContextValue) (ballots : Ballots) →
+        after_votes q M.outputs ballots (running_value_in M past e steps (stage_before Vote) q)
+        ≡ running_value_in M past e steps (stage_before Sweep) q }
+    ensures line { (M : MissionValue) (L : Log) (n : ℕ) (steps : Steps) (q : Channel) (ctx : ContextValue)
+        (ballots : Ballots) →
         let past = cycles_before M L n in
         let e = cycle_at M L n in
         q < 7 → has e.active q ≡ true → place_or e.contexts_after q None ≡ Some ctx →
         ((j : Channel) → j < 7 → (j == q) ≡ false →
         place_or ballots j None ≡ ballot_of (received_body M e.entries (this_cycle past) Vote j q)) →
-        line_by M.rules q M.outputs (running_value_in M past e steps (stage_before Vote) q) (kept_of e.decision e.inputs) ballots ≡ line_of M e q }
+        line_by M.rules q M.outputs (running_value_in M past e steps (stage_before Vote) q)
+        (kept_of e.decision e.inputs) ballots ≡ line_of M e q }
 {}
 
 /// A joining channel's replica takes the sweep frames that count, and then the final content.
 pub fn joiners_are_filled()
     ensures sweep { (M : MissionValue) (past : Past) (e : Cycle) (q : Channel) →
-        after_sweep_frames M.rules.blocks (this_cycle past) (sweeps_at M past e q) (joiner_in M past e (stage_before Sweep) q) ≡ joiner_in M past e (stage_before Final) q }
+        after_sweep_frames M.rules.blocks (this_cycle past) (sweeps_at M past e q)
+        (joiner_in M past e (stage_before Sweep) q) ≡ joiner_in M past e (stage_before Final) q }
     ensures last_copies { (M : MissionValue) (past : Past) (e : Cycle) (q : Channel) →
-        after_final_frames (finals_at M past e q) (joiner_in M past e (stage_before Final) q) ≡ joiner_in M past e (stage_before Switch) q }
-    ensures switches { (M : MissionValue) (past : Past) (e : Cycle) (q : Channel) → joiner_in M past e (stage_before Switch) q ≡ joiner_in M past e (stage_after Switch) q }
+        after_final_frames (finals_at M past e q) (joiner_in M past e (stage_before Final) q)
+        ≡ joiner_in M past e (stage_before Switch) q }
+    ensures switches { (M : MissionValue) (past : Past) (e : Cycle) (q : Channel) →
+        joiner_in M past e (stage_before Switch) q ≡ joiner_in M past e (stage_after Switch) q }
 {}

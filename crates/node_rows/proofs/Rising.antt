@@ -18,7 +18,8 @@ joins fallen up = absurd cc
 joins resting up = absurd cc
 joins (returning j) up = (j, refl)
 
-taken_of : (content : Option FinalValue) (j : JoinerValue) → is_some content ≡ true → (k : ControlValue) × ((with_content content j).taken ≡ Some k)
+taken_of : (content : Option FinalValue) (j : JoinerValue) → is_some content ≡ true →
+    (k : ControlValue) × ((with_content content j).taken ≡ Some k)
 taken_of None j some = absurd cc
 taken_of (Some content) j some = (control_of_word content.control, refl)
 
@@ -37,6 +38,7 @@ took frames old new result joining is tells did =
     )
 
 -- one content more that is in range
-pub one_more : (fits : FinalValue → Bool) (xs : List FinalValue) (x : FinalValue) → list_all fits xs ≡ true → fits x ≡ true →
+pub one_more : (fits : FinalValue → Bool) (xs : List FinalValue) (x : FinalValue) → list_all fits xs ≡ true →
+    fits x ≡ true →
     list_all fits (xs ++ x ∷ []) ≡ true
 one_more fits xs x h k = all-append fits xs (x ∷ []) h (ap (λ (b : Bool). b && true) k)

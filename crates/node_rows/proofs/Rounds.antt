@@ -12,7 +12,8 @@ use Rattle.guards_nodes.specs.NodeCalls.{changed, on_running, HasReceived}
 use Rattle.channel_node.specs.Answers.{HasTree, mode_of_state}
 use Rattle.node_rows.specs.Driven.{InRound}
 
-begun_state : (channel : Channel) (rules : RulesValue) (width : ℕ) (sensors : List ℤ) (s : StateValue) → mode_of_state s ≡ mode.Up →
+begun_state : (channel : Channel) (rules : RulesValue) (width : ℕ) (sensors : List ℤ) (s : StateValue) →
+    mode_of_state s ≡ mode.Up →
     InRound 1 0 (record { channel = channel; rules = rules; state = on_running (after_source channel width sensors) s })
 begun_state channel rules width sensors (running r) up =
     record {
@@ -53,9 +54,14 @@ other_sender round from items received k j unlike =
     ∙ ap (λ (b : Bool). if b then items else received k j) (and_no (k == round))
 
 heard_part : (round from : ℕ) (items : List ItemValue) (channel : Channel) (rules : RulesValue) (part : RunningValue)
-    (tree : ExchangeTreeValue) (received : Received) → part.progress.tree ≡ Some tree → tree.active ≡ part.held.control.active → tree.me ≡ channel →
+    (tree : ExchangeTreeValue) (received : Received) → part.progress.tree ≡ Some tree →
+    tree.active ≡ part.held.control.active → tree.me ≡ channel →
     ((k j : ℕ) → round < k → received k j ≡ []) → ((j : ℕ) → from ≤ j → received round j ≡ []) →
-    InRound round (from + 1) (record { channel = channel; rules = rules; state = running (after_exchange received round from items part) })
+    InRound round (from + 1) (record {
+      channel = channel;
+      rules = rules;
+      state = running (after_exchange received round from items part);
+    })
 heard_part round from items channel rules part tree received begun active_is me_is later rest =
     record {
       part = after_exchange received round from items part;
@@ -67,10 +73,12 @@ heard_part round from items channel rules part tree received begun active_is me_
       me_is = me_is;
       stands = refl;
       later = λ k j h. other_round round from items received k j (λ e. omega (arith, h, e)) ∙ later k j h;
-      rest = λ j h. other_sender round from items received round j (λ e. omega (arith, h, e)) ∙ rest j (omega (arith, h));
+      rest = λ j h. other_sender round from items received round j (λ e. omega (arith, h, e))
+          ∙ rest j (omega (arith, h));
     }
 
-pub stands_for : (s : StateValue) (part : RunningValue) (tree : ExchangeTreeValue) (received : Received) → s ≡ running part →
+pub stands_for : (s : StateValue) (part : RunningValue) (tree : ExchangeTreeValue) (received : Received) →
+    s ≡ running part →
     part.progress.tree ≡ Some tree → tree ≡ tree_for received tree → StandsFor s received
 stands_for s part tree received runs begun stands =
     subst (λ (x : StateValue). StandsFor x received) (sym runs)
@@ -79,7 +87,8 @@ stands_for s part tree received runs begun stands =
 hear_is : (round from : ℕ) (items : List ItemValue) (old new : NodeValue) (at : InRound round from old) →
     HasReceived round from items old new → new ≡ changed (after_exchange at.received round from items) old
 hear_is round from items old new at does =
-    does at.received (stands_for old.state at.part at.tree at.received at.runs at.begun at.stands) (at.rest from (omega arith))
+    does at.received (stands_for old.state at.part at.tree at.received at.runs at.begun at.stands)
+    (at.rest from (omega arith))
 
 pub hear_rules : (round from : ℕ) (items : List ItemValue) (old new : NodeValue) → InRound round from old →
     HasReceived round from items old new → new.rules ≡ old.rules
@@ -90,9 +99,15 @@ pub hears : (round from : ℕ) (items : List ItemValue) (old new : NodeValue) �
     HasReceived round from items old new → InRound round (from + 1) new
 hears round from items old new at does =
     subst (λ (n : NodeValue). InRound round (from + 1) n) (sym (hear_is round from items old new at does))
-    (subst (λ (s : StateValue). InRound round (from + 1) (record { channel = old.channel; rules = old.rules; state = on_running (after_exchange at.received round from items) s }))
+    (subst (λ (s : StateValue).
+    InRound round (from + 1) (record {
+      channel = old.channel;
+      rules = old.rules;
+      state = on_running (after_exchange at.received round from items) s;
+    }))
     (sym at.runs)
-    (heard_part round from items old.channel old.rules at.part at.tree at.received at.begun at.active_is at.me_is at.later at.rest))
+    (heard_part round from items old.channel old.rules at.part at.tree at.received at.begun at.active_is at.me_is
+    at.later at.rest))
 
 -- nothing was received of a channel
 pub skips : (round from : ℕ) (node : NodeValue) → InRound round from node → InRound round (from + 1) node
@@ -133,7 +148,8 @@ same_tree : (x : Option ExchangeTreeValue) (t tree : ExchangeTreeValue) → x �
 same_tree x t tree begun is = let both : Some t ≡ Some tree = sym is ∙ begun in cc
 
 -- the tree of the exchange is the one of which it is said how far it has come
-pub tree_is : (round from : ℕ) (node : NodeValue) (at : InRound round from node) (r : RunningValue) (t : ExchangeTreeValue) →
+pub tree_is : (round from : ℕ) (node : NodeValue) (at : InRound round from node) (r : RunningValue)
+    (t : ExchangeTreeValue) →
     node.state ≡ running r → r.progress.tree ≡ Some t → t ≡ at.tree
 tree_is round from node at r t runs begun =
     same_tree r.progress.tree t at.tree
@@ -141,7 +157,8 @@ tree_is round from node at r t runs begun =
 
 pub member : (round from : ℕ) (q : Channel) (node : NodeValue) → InRound round from node →
     ((r : RunningValue) → node.state ≡ running r → has r.held.control.active q ≡ true) →
-    (r : RunningValue) (t : ExchangeTreeValue) → node.state ≡ running r → r.progress.tree ≡ Some t → has t.active q ≡ true
+    (r : RunningValue) (t : ExchangeTreeValue) → node.state ≡ running r → r.progress.tree ≡ Some t →
+    has t.active q ≡ true
 member round from q node at had r t runs begun =
     ap (λ (x : ExchangeTreeValue). has x.active q) (tree_is round from node at r t runs begun)
     ∙ ap (λ s. has s q) at.active_is ∙ had at.part at.runs
@@ -153,7 +170,8 @@ another round from q node at apart r t runs begun =
 
 pub reaches : (round from : ℕ) (node : NodeValue) → InRound round from node →
     ((r : RunningValue) → node.state ≡ running r → round ≤ tolerated_faults r.held.control.active + 1) →
-    (r : RunningValue) (t : ExchangeTreeValue) → node.state ≡ running r → r.progress.tree ≡ Some t → round ≤ tolerated_faults t.active + 1
+    (r : RunningValue) (t : ExchangeTreeValue) → node.state ≡ running r → r.progress.tree ≡ Some t →
+    round ≤ tolerated_faults t.active + 1
 reaches round from node at low r t runs begun =
     subst (λ a. round ≤ tolerated_faults a + 1)
     (sym (ap (λ (x : ExchangeTreeValue). x.active) (tree_is round from node at r t runs begun) ∙ at.active_is))

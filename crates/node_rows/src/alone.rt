@@ -72,8 +72,10 @@ fn fits(round: u8, from: Chan, frame: Option<&Exchange>) -> bool
 // Whether the node, if it runs, may receive of this channel in this round.
 fn may_hear(node: &Node, round: u8, from: Chan) -> bool
     ensures another { result ≡ true → from ≢ node.now.channel }
-    ensures member { result ≡ true → (r : RunningValue) → node.now.state ≡ running r → has r.control.active from ≡ true }
-    ensures high { result ≡ true → (r : RunningValue) → node.now.state ≡ running r → round ≤ tolerated_faults r.control.active + 1 }
+    ensures member { result ≡ true → (r : RunningValue) → node.now.state ≡ running r →
+        has r.control.active from ≡ true }
+    ensures high { result ≡ true → (r : RunningValue) → node.now.state ≡ running r →
+        round ≤ tolerated_faults r.control.active + 1 }
 {
     match node.control() {
         None => from != node.channel(),

@@ -63,8 +63,8 @@ pub fn without_faults<R: Threads + Wait + Sync>(
     Ok(one && two)
 }
 
-/// It tells on what it was told, and decides by what most were told. It accuses by the forged vote; one accuser does not
-/// judge.
+/// It tells on what it was told, and decides by what most were told. It accuses by the forged vote; one accuser does
+/// not judge.
 pub fn forged_frames_are_outvoted<R: Threads + Wait + Sync>(
     rt: &R,
     alloc: Global,
@@ -111,8 +111,8 @@ fn of_three(vote: i64, asked: Asked) -> Seen {
     seen
 }
 
-/// The first request is heard. It stands, so a transfer starts, with two of three blocks; the written one remains besides
-/// the third.
+/// The first request is heard. It stands, so a transfer starts, with two of three blocks; the written one remains
+/// besides the third.
 pub fn a_sender_starts_a_transfer<R: Threads + Wait + Sync>(
     rt: &R,
     alloc: Global,
@@ -131,7 +131,8 @@ pub fn a_sender_starts_a_transfer<R: Threads + Wait + Sync>(
     Ok(one && two)
 }
 
-/// Only the written block remains, which the final frame carries. The last request of a fresh channel does not remove it.
+/// Only the written block remains, which the final frame carries. The last request of a fresh channel does not remove
+/// it.
 pub fn a_sender_ends_a_transfer<R: Threads + Wait + Sync>(
     rt: &R,
     alloc: Global,

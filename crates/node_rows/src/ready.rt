@@ -7,7 +7,8 @@ use channel_node::Node;
 
 /// Whether the channel of a node, if it runs, is one of at least three active ones.
 pub fn is_ready(node: &Node) -> bool
-    ensures mine { result ≡ true → (r : RunningValue) → node.now.state ≡ running r → has r.control.active node.now.channel ≡ true }
+    ensures mine { result ≡ true → (r : RunningValue) → node.now.state ≡ running r →
+        has r.control.active node.now.channel ≡ true }
     ensures some { result ≡ true → (r : RunningValue) → node.now.state ≡ running r → 3 ≤ length r.control.active }
 {
     match node.control() {

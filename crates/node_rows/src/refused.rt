@@ -11,7 +11,8 @@ use std::alloc::{AllocError, Global};
 use std::sync::Wait;
 use std::thread::Threads;
 
-// Whether the node worked a round; where it was refused for want of memory the context is as before, and so is the history.
+// Whether the node worked a round; where it was refused for want of memory the context is as before, and so is the
+// history.
 fn works_or_stays<R: Threads + Wait + Sync>(
     rt: &R,
     alloc: Global,

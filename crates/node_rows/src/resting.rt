@@ -63,8 +63,8 @@ fn asks_after(
     Ok(asked(node.request(4)))
 }
 
-// Whether a node that crashed and was restarted asks: with no start, and once it took a frame of the transfer of cycle 4
-// with this one.
+// Whether a node that crashed and was restarted asks: with no start, and once it took a frame of the transfer of cycle
+// 4 with this one.
 fn asks(alloc: Global, node: &mut Node, mission: &Mission) -> Result<bool, AllocError>
     requires { mission.now.rules ≡ node.old.rules }
 {

@@ -8,9 +8,9 @@ use mission_type::Mission;
 use native_calls::{Calls, Code, middle, ramp, saturated};
 use std::alloc::{AllocError, Global};
 
-// Four channels with the sensor words 5 to 8, and three blocks. Each cycle adds the input to the first word, which is the
-// output. A count falls to its half, and a channel is removed at a count of 2. A transfer copies two blocks in a cycle, and
-// a final frame has one at most.
+// Four channels with the sensor words 5 to 8, and three blocks. Each cycle adds the input to the first word, which is
+// the output. A count falls to its half, and a channel is removed at a count of 2. A transfer copies two blocks in a
+// cycle, and a final frame has one at most.
 const MISSION: &str = "outputs = [\"b0.0\"]
 table = [[\"sum\"]]
 sensors = [[[5], [6], [7], [8]]]

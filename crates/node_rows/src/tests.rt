@@ -55,8 +55,8 @@ fn rows_of<R: Threads + Wait + Sync>(
     ])
 }
 
-// Which rows of the small mission's nodes hold. This function alone owns the mission: each place where one may end costs
-// the proof minutes.
+// Which rows of the small mission's nodes hold. This function alone owns the mission: each place where one may end
+// costs the proof minutes.
 fn rows<R: Threads + Wait + Sync>(rt: &R, alloc: Global) -> Result<Option<[bool; 13]>, AllocError> {
     match mission(alloc) {
         Some(mission) => Ok(Some(rows_of(rt, alloc, &mission)?)),

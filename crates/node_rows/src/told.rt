@@ -173,8 +173,8 @@ pub fn joined() -> Told {
     told
 }
 
-/// Cycle 0, in which nothing comes of channel 3, and cycle 1, in which all accuse it. Then channel 3 asks in each cycle,
-/// and a transfer to it runs in the cycles 3 and 4, which ends by its join.
+/// Cycle 0, in which nothing comes of channel 3, and cycle 1, in which all accuse it. Then channel 3 asks in each
+/// cycle, and a transfer to it runs in the cycles 3 and 4, which ends by its join.
 pub fn transfer() -> [Told; 6] {
     let mut told = [
         Told::plain(4, 6),

@@ -10,14 +10,18 @@ use Rattle.guards_model.specs.OralMessages.{PathValue}
 use Rattle.oral_messages.specs.Trees.{items_told}
 use Rattle.std.proofs.lemmas.Option.{slice_get-map, slice_get-get_or, get_or_from_slice_get, slice_get_read}
 
-module _ (me : Channel) (value : PathValue → Option SourceValue) (ys : List PathValue) (i : ℕ) (y : PathValue) (lt : i < length ys) (is : get_or ys i [] ≡ y) where
+module _ (me : Channel) (value : PathValue → Option SourceValue) (ys : List PathValue) (i : ℕ) (y : PathValue)
+    (lt : i < length ys) (is : get_or ys i [] ≡ y) where
   item : PathValue → ItemValue
   item y = record { path = reverse y; word = value y }
 
   free : PathValue → Bool
   free y = not (has y me)
 
-  pub told_more : has y me ≡ false → items_told me value (take (i + 1) ys) ≡ items_told me value (take i ys) ++ (let one : ItemValue = record { path = reverse y; word = value y } in one) ∷ []
+  pub told_more : has y me ≡ false →
+      items_told me value (take (i + 1) ys)
+      ≡ items_told me value (take i ys) ++ (let one : ItemValue = record { path = reverse y; word = value y } in one)
+      ∷ []
   unfolding items_told item free
   told_more apart =
       ap (map item) (filter_more free ys i [] lt
@@ -35,26 +39,33 @@ module _ (me : Channel) (value : PathValue → Option SourceValue) (ys : List Pa
 
 -- what the items tell of the first paths of a level, whatever function the values are of
 abbrev pub TellsFront : Channel → List (Option SourceValue) → List PathValue → List ItemValue → ℕ → Type 0
-TellsFront me values ys items i = (value : PathValue → Option SourceValue) → values ≡ map value ys → items ≡ items_told me value (take i ys)
+TellsFront me values ys items i = (value : PathValue → Option SourceValue) → values ≡ map value ys →
+    items ≡ items_told me value (take i ys)
 
-pub front_none : (me : Channel) (values : List (Option SourceValue)) (ys : List PathValue) (items : List ItemValue) → items ≡ [] → TellsFront me values ys items 0
+pub front_none : (me : Channel) (values : List (Option SourceValue)) (ys : List PathValue) (items : List ItemValue) →
+    items ≡ [] → TellsFront me values ys items 0
 unfolding items_told
 front_none me values ys items none value same = none
 
-module _ (me : Channel) (values : List (Option SourceValue)) (ys : List PathValue) (items new : List ItemValue) (i : ℕ) (y : PathValue) (lt : i < length values) (is : get_or ys i [] ≡ y) where
+module _ (me : Channel) (values : List (Option SourceValue)) (ys : List PathValue) (items new : List ItemValue) (i : ℕ)
+    (y : PathValue) (lt : i < length values) (is : get_or ys i [] ≡ y) where
   same_length : (value : PathValue → Option SourceValue) → values ≡ map value ys → length values ≡ length ys
   same_length value same = ap length same ∙ length-map ys value
 
-  pub front_more : (item : ItemValue) → has y me ≡ false → new ≡ items ++ item ∷ [] → item ≡ (let one : ItemValue = record { path = reverse y; word = get_or values i None } in one) →
+  pub front_more : (item : ItemValue) → has y me ≡ false → new ≡ items ++ item ∷ [] →
+      item ≡ (let one : ItemValue = record { path = reverse y; word = get_or values i None } in one) →
       TellsFront me values ys items i → TellsFront me values ys new (i + 1)
   front_more item apart e shown before value same =
       let long : length values ≡ length ys = same_length value same in
       let within : i < length ys = omega (arith, lt, long) in
       let word : get_or values i None ≡ value y =
-      ap (λ xs. get_or xs i None) same ∙ get_or_from_slice_get (map value ys) i (value y) None (slice_get-map value ys i ∙ ap (option_map value) (slice_get-get_or ys i [] within ∙ ap (λ x. Some x) is)) in
+      ap (λ xs. get_or xs i None) same
+      ∙ get_or_from_slice_get (map value ys) i (value y) None
+      (slice_get-map value ys i ∙ ap (option_map value) (slice_get-get_or ys i [] within ∙ ap (λ x. Some x) is)) in
       e
       ∙ ap (λ front. front ++ item ∷ []) (before value same)
-      ∙ ap (λ one. items_told me value (take i ys) ++ one ∷ []) (shown ∙ ap (λ v. let one : ItemValue = record { path = reverse y; word = v } in one) word)
+      ∙ ap (λ one. items_told me value (take i ys) ++ one ∷ [])
+      (shown ∙ ap (λ v. let one : ItemValue = record { path = reverse y; word = v } in one) word)
       ∙ sym (told_more me value ys i y within is apart)
 
   pub front_same : has y me ≡ true → new ≡ items → TellsFront me values ys items i → TellsFront me values ys new (i + 1)
@@ -63,7 +74,8 @@ module _ (me : Channel) (values : List (Option SourceValue)) (ys : List PathValu
       let within : i < length ys = omega (arith, lt, long) in
       e ∙ before value same ∙ sym (told_same me value ys i y within is there)
 
-pub front_all : (me : Channel) (values : List (Option SourceValue)) (ys : List PathValue) (items : List ItemValue) (i : ℕ) → i ≡ length values → TellsFront me values ys items i →
+pub front_all : (me : Channel) (values : List (Option SourceValue)) (ys : List PathValue) (items : List ItemValue)
+    (i : ℕ) → i ≡ length values → TellsFront me values ys items i →
     (value : PathValue → Option SourceValue) → values ≡ map value ys → items ≡ items_told me value ys
 front_all me values ys items i all before value same =
     let long : i ≡ length ys = all ∙ ap length same ∙ length-map ys value in
@@ -80,5 +92,6 @@ has_first a b me same = or_true (b == me) (has (a ∷ []) me) (has_one a me same
 pub has_last : (a b me : Channel) → b ≡ me → has (b ∷ a ∷ []) me ≡ true
 has_last a b me same = or_left (b == me) (has (a ∷ []) me) (eq-eqb b me same)
 
-pub read_none : (xs : List (Option SourceValue)) (i : ℕ) (x : Option SourceValue) → i < length xs → x ≡ get_or xs i x → x ≡ get_or xs i None
+pub read_none : (xs : List (Option SourceValue)) (i : ℕ) (x : Option SourceValue) → i < length xs → x ≡ get_or xs i x →
+    x ≡ get_or xs i None
 read_none xs i x lt e = sym (get_or_from_slice_get xs i x None (slice_get_read xs (length xs) i x refl lt e))

@@ -35,15 +35,18 @@ none_under t s (true ∷ flags) h =
     none n e = omega (arith, e)
 
 -- the members below a label are those among the truth values before it
-pub counted_under : (t s q : ℕ) (flags : List Bool) → t ≡ s + q → count_by (λ x. nat_lt x t) (members_from s flags) ≡ length (members_from s (take q flags))
+pub counted_under : (t s q : ℕ) (flags : List Bool) → t ≡ s + q →
+    count_by (λ x. nat_lt x t) (members_from s flags) ≡ length (members_from s (take q flags))
 unfolding one_if
 counted_under t s zero flags e = none_under t s flags (omega (arith, e))
 counted_under t s (suc q) [] e = refl
 counted_under t s (suc q) (false ∷ flags) e = counted_under t (s + 1) q flags (omega (arith, e))
 counted_under t s (suc q) (true ∷ flags) e =
     count-cons (λ x. nat_lt x t) s (members_from (s + 1) flags)
-    ∙ ap (λ b. one_if b + count_by (λ x. nat_lt x t) (members_from (s + 1) flags)) (if_less s t (nat_lt s t) refl (omega (arith, e)))
-    ∙ one (count_by (λ x. nat_lt x t) (members_from (s + 1) flags)) (length (members_from (s + 1) (take q flags))) (counted_under t (s + 1) q flags (omega (arith, e)))
+    ∙ ap (λ b. one_if b + count_by (λ x. nat_lt x t) (members_from (s + 1) flags))
+    (if_less s t (nat_lt s t) refl (omega (arith, e)))
+    ∙ one (count_by (λ x. nat_lt x t) (members_from (s + 1) flags)) (length (members_from (s + 1) (take q flags)))
+    (counted_under t (s + 1) q flags (omega (arith, e)))
   where
     one : (n m : ℕ) → n ≡ m → one_if true + n ≡ suc m
     one n m e = omega (arith, e)
@@ -55,30 +58,38 @@ from_more s i [] h = absurd (omega (arith, h))
 from_more s zero (true ∷ flags) h = ap (λ n. n ∷ []) (omega arith)
 from_more s zero (false ∷ flags) h = refl
 from_more s (suc i) (true ∷ flags) h =
-    ap (λ ys. s ∷ ys) (from_more (s + 1) i flags (omega (arith, h)) ∙ ap (λ n. members_from (s + 1) (take i flags) ++ cond (get_or flags i false) (n ∷ []) []) (omega arith))
+    ap (λ ys. s ∷ ys) (from_more (s + 1) i flags (omega (arith, h))
+    ∙ ap (λ n. members_from (s + 1) (take i flags) ++ cond (get_or flags i false) (n ∷ []) []) (omega arith))
 from_more s (suc i) (false ∷ flags) h =
-    from_more (s + 1) i flags (omega (arith, h)) ∙ ap (λ n. members_from (s + 1) (take i flags) ++ cond (get_or flags i false) (n ∷ []) []) (omega arith)
+    from_more (s + 1) i flags (omega (arith, h))
+    ∙ ap (λ n. members_from (s + 1) (take i flags) ++ cond (get_or flags i false) (n ∷ []) []) (omega arith)
 
 all_channels : (s : ℕ) (flags : List Bool) → s + length flags ≤ 7 → list_all is_channel (members_from s flags) ≡ true
 all_channels s [] h = refl
 all_channels s (true ∷ flags) h =
-    and_true (is_channel s) (list_all is_channel (members_from (s + 1) flags)) (if_less s 7 (nat_lt s 7) refl (omega (arith, h))) (all_channels (s + 1) flags (omega (arith, h)))
+    and_true (is_channel s) (list_all is_channel (members_from (s + 1) flags))
+    (if_less s 7 (nat_lt s 7) refl (omega (arith, h))) (all_channels (s + 1) flags (omega (arith, h)))
 all_channels s (false ∷ flags) h = all_channels (s + 1) flags (omega (arith, h))
 
 all_above : (t s : ℕ) (flags : List Bool) → t < s → list_all (λ y. nat_lt t y) (members_from s flags) ≡ true
 all_above t s [] h = refl
-all_above t s (true ∷ flags) h = and_true (nat_lt t s) (list_all (λ y. nat_lt t y) (members_from (s + 1) flags)) (if_less t s (nat_lt t s) refl h) (all_above t (s + 1) flags (omega (arith, h)))
+all_above t s (true ∷ flags) h =
+    and_true (nat_lt t s) (list_all (λ y. nat_lt t y) (members_from (s + 1) flags)) (if_less t s (nat_lt t s) refl h)
+    (all_above t (s + 1) flags (omega (arith, h)))
 all_above t s (false ∷ flags) h = all_above t (s + 1) flags (omega (arith, h))
 
 ascending : (s : ℕ) (flags : List Bool) → ascends (members_from s flags) ≡ true
 ascending s [] = refl
-ascending s (true ∷ flags) = and_true (list_all (λ y. nat_lt s y) (members_from (s + 1) flags)) (ascends (members_from (s + 1) flags)) (all_above s (s + 1) flags (omega arith)) (ascending (s + 1) flags)
+ascending s (true ∷ flags) =
+    and_true (list_all (λ y. nat_lt s y) (members_from (s + 1) flags)) (ascends (members_from (s + 1) flags))
+    (all_above s (s + 1) flags (omega arith)) (ascending (s + 1) flags)
 ascending s (false ∷ flags) = ascending (s + 1) flags
 
 pub members_are_set : (flags : List Bool) → length flags ≡ 7 → is_set (members_from 0 flags) ≡ true
 unfolding is_set
 members_are_set flags h =
-    and_true (list_all is_channel (members_from 0 flags)) (ascends (members_from 0 flags)) (all_channels 0 flags (omega (arith, h))) (ascending 0 flags)
+    and_true (list_all is_channel (members_from 0 flags)) (ascends (members_from 0 flags))
+    (all_channels 0 flags (omega (arith, h))) (ascending 0 flags)
 
 not_equal : (a b : ℕ) (e : Bool) → (a == b) ≡ e → (a ≡ b → ⊥) → (a == b) ≡ false
 not_equal a b true h ne = absurd (ne (eqb-true a b h))
@@ -87,7 +98,8 @@ not_equal a b false h ne = h
 none_before : (t s : ℕ) (flags : List Bool) → t < s → has (members_from s flags) t ≡ false
 none_before t s [] h = refl
 none_before t s (true ∷ flags) h =
-    ap (λ b. b || has (members_from (s + 1) flags) t) (not_equal s t (s == t) refl (λ e. omega (arith, h, e))) ∙ none_before t (s + 1) flags (omega (arith, h))
+    ap (λ b. b || has (members_from (s + 1) flags) t) (not_equal s t (s == t) refl (λ e. omega (arith, h, e)))
+    ∙ none_before t (s + 1) flags (omega (arith, h))
 none_before t s (false ∷ flags) h = none_before t (s + 1) flags (omega (arith, h))
 
 pub has_flag : (t s q : ℕ) (flags : List Bool) → t ≡ s + q → has (members_from s flags) t ≡ get_or flags q false
@@ -95,7 +107,8 @@ has_flag t s q [] e = refl
 has_flag t s zero (true ∷ flags) e = ap (λ b. b || has (members_from (s + 1) flags) t) (eq-eqb s t (omega (arith, e)))
 has_flag t s zero (false ∷ flags) e = none_before t (s + 1) flags (omega (arith, e))
 has_flag t s (suc q) (true ∷ flags) e =
-    ap (λ b. b || has (members_from (s + 1) flags) t) (not_equal s t (s == t) refl (λ h. omega (arith, h, e))) ∙ has_flag t (s + 1) q flags (omega (arith, e))
+    ap (λ b. b || has (members_from (s + 1) flags) t) (not_equal s t (s == t) refl (λ h. omega (arith, h, e)))
+    ∙ has_flag t (s + 1) q flags (omega (arith, e))
 has_flag t s (suc q) (false ∷ flags) e = has_flag t (s + 1) q flags (omega (arith, e))
 
 -- ---- the walk over the channels that makes the tables
@@ -109,7 +122,8 @@ pub record AreListed (label : ℕ) (flags : List Bool) (count : ℕ) (labels bel
   pub listed : take count labels ≡ members_from 0 (take label flags)
   pub ranked : (q : ℕ) → q < label → get_or below q 0 ≡ length (members_from 0 (take q flags))
 
-rank_more : (label : ℕ) (flags : List Bool) (count : ℕ) (labels below : List ℕ) → label < 7 → AreListed label flags count labels below →
+rank_more : (label : ℕ) (flags : List Bool) (count : ℕ) (labels below : List ℕ) → label < 7 →
+    AreListed label flags count labels below →
     (q : ℕ) → q < label + 1 → get_or (slice_set below label count) q 0 ≡ length (members_from 0 (take q flags))
 rank_more label flags count labels below small listed =
     below_more (λ q. get_or (slice_set below label count) q 0 ≡ length (members_from 0 (take q flags))) label
@@ -117,28 +131,37 @@ rank_more label flags count labels below small listed =
     (let long = listed.long_below in let lt : label < length below = omega arith in rw get_or-set_same listed.counted)
 
 pub listed_more : (label : ℕ) (flags : List Bool) (count : ℕ) (labels below : List ℕ) → length flags ≡ 7 → label < 7 →
-    get_or flags label false ≡ true → AreListed label flags count labels below → AreListed (label + 1) flags (count + 1) (slice_set labels count label) (slice_set below label count)
+    get_or flags label false ≡ true → AreListed label flags count labels below →
+    AreListed (label + 1) flags (count + 1) (slice_set labels count label) (slice_set below label count)
 listed_more label flags count labels below seven small member listed =
     let more : members_from 0 (take (label + 1) flags) ≡ members_from 0 (take label flags) ++ label ∷ [] =
     ap (λ n. members_from 0 (take n flags)) (add-one label) ∙ from_more 0 label flags (omega arith)
-    ∙ ap (λ b. members_from 0 (take label flags) ++ cond b ((0 + label) ∷ []) []) member ∙ ap (λ n. members_from 0 (take label flags) ++ n ∷ []) (omega arith) in
+    ∙ ap (λ b. members_from 0 (take label flags) ++ cond b ((0 + label) ∷ []) []) member
+    ∙ ap (λ n. members_from 0 (take label flags) ++ n ∷ []) (omega arith) in
     let few = listed.few in
     let long_labels = listed.long_labels in
     record {
       few = omega arith;
       long_labels = length-set labels count label ∙ listed.long_labels;
       long_below = length-set below label count ∙ listed.long_below;
-      counted = omega (arith, listed.counted, ap length more, length-append (members_from 0 (take label flags)) (label ∷ []));
+      counted = omega (
+        arith,
+        listed.counted,
+        ap length more,
+        length-append (members_from 0 (take label flags)) (label ∷ []),
+      );
       listed = take_more_set labels count label (omega arith) ∙ ap (λ ys. ys ++ label ∷ []) listed.listed ∙ sym more;
       ranked = rank_more label flags count labels below small listed;
     }
 
 pub listed_same : (label : ℕ) (flags : List Bool) (count : ℕ) (labels below : List ℕ) → length flags ≡ 7 → label < 7 →
-    get_or flags label false ≡ false → AreListed label flags count labels below → AreListed (label + 1) flags count labels (slice_set below label count)
+    get_or flags label false ≡ false → AreListed label flags count labels below →
+    AreListed (label + 1) flags count labels (slice_set below label count)
 listed_same label flags count labels below seven small member listed =
     let more : members_from 0 (take (label + 1) flags) ≡ members_from 0 (take label flags) =
     ap (λ n. members_from 0 (take n flags)) (add-one label) ∙ from_more 0 label flags (omega arith)
-    ∙ ap (λ b. members_from 0 (take label flags) ++ cond b ((0 + label) ∷ []) []) member ∙ append-nil (members_from 0 (take label flags)) in
+    ∙ ap (λ b. members_from 0 (take label flags) ++ cond b ((0 + label) ∷ []) []) member
+    ∙ append-nil (members_from 0 (take label flags)) in
     let few = listed.few in
     record {
       few = omega arith;
@@ -149,7 +172,8 @@ listed_same label flags count labels below seven small member listed =
       ranked = rank_more label flags count labels below small listed;
     }
 
-pub listed_all : (label : ℕ) (flags : List Bool) (count : ℕ) (labels below : List ℕ) → length flags ≡ 7 → label ≡ 7 → AreListed label flags count labels below → AreTables flags count labels below
+pub listed_all : (label : ℕ) (flags : List Bool) (count : ℕ) (labels below : List ℕ) → length flags ≡ 7 → label ≡ 7 →
+    AreListed label flags count labels below → AreTables flags count labels below
 unfolding members
 listed_all label flags count labels below seven last listed =
     let whole : take label flags ≡ flags = ap (λ n. take n flags) (last ∙ sym seven) ∙ take-length flags in

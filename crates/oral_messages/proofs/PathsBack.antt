@@ -22,7 +22,9 @@ two_back active k =
 back_right : ChannelSet → Bool
 back_right active =
     list_all (λ k. bytes_eq (get_or (paths active 1) k []) (get_or active k 0 ∷ [])) (range_with_len 0 (length active))
-    && list_all (λ k. bytes_eq (get_or (paths active 2) k []) (two_back active k) && (nat_lt (k / (length active - 1)) (length active) && nat_lt (skipped (k / (length active - 1)) (k % (length active - 1))) (length active)))
+    && list_all (λ k. bytes_eq (get_or (paths active 2) k []) (two_back active k)
+    && (nat_lt (k / (length active - 1)) (length active)
+    && nat_lt (skipped (k / (length active - 1)) (k % (length active - 1))) (length active)))
     (range_with_len 0 (length active * (length active - 1)))
 
 each_back : list_all back_right (sublists every_channel) ≡ true
@@ -31,17 +33,24 @@ each_back = refl
 
 in_range_all : (P : ℕ → Bool) (a n k : ℕ) → list_all P (range_with_len a n) ≡ true → k < n → P (a + k) ≡ true
 in_range_all P a zero k h lt = absurd (omega (arith, lt))
-in_range_all P a (suc n) zero h lt = subst (λ m. P m ≡ true) (omega arith) (both (P a) (list_all P (range_with_len (a + 1) n)) h).0
-in_range_all P a (suc n) (suc k) h lt = subst (λ m. P m ≡ true) (omega arith) (in_range_all P (a + 1) n k (both (P a) (list_all P (range_with_len (a + 1) n)) h).1 (omega (arith, lt)))
+in_range_all P a (suc n) zero h lt =
+    subst (λ m. P m ≡ true) (omega arith) (both (P a) (list_all P (range_with_len (a + 1) n)) h).0
+in_range_all P a (suc n) (suc k) h lt =
+    subst (λ m. P m ≡ true) (omega arith)
+    (in_range_all P (a + 1) n k (both (P a) (list_all P (range_with_len (a + 1) n)) h).1 (omega (arith, lt)))
 
 backs : (active : ChannelSet) → is_set active ≡ true → back_right active ≡ true
 backs active h = every_set back_right each_back active h
 
-pub one_back_is : (active : ChannelSet) (k : ℕ) → is_set active ≡ true → k < length active → get_or (paths active 1) k [] ≡ get_or active k 0 ∷ []
+pub one_back_is : (active : ChannelSet) (k : ℕ) → is_set active ≡ true → k < length active →
+    get_or (paths active 1) k [] ≡ get_or active k 0 ∷ []
 unfolding back_right
 one_back_is active k set lt =
-    let h = both (list_all (λ k. bytes_eq (get_or (paths active 1) k []) (get_or active k 0 ∷ [])) (range_with_len 0 (length active)))
-    (list_all (λ k. bytes_eq (get_or (paths active 2) k []) (two_back active k) && (nat_lt (k / (length active - 1)) (length active) && nat_lt (skipped (k / (length active - 1)) (k % (length active - 1))) (length active)))
+    let h = both (list_all (λ k. bytes_eq (get_or (paths active 1) k []) (get_or active k 0 ∷ []))
+    (range_with_len 0 (length active)))
+    (list_all (λ k. bytes_eq (get_or (paths active 2) k []) (two_back active k)
+    && (nat_lt (k / (length active - 1)) (length active)
+    && nat_lt (skipped (k / (length active - 1)) (k % (length active - 1))) (length active)))
     (range_with_len 0 (length active * (length active - 1)))) (backs active set) in
     (bytes_eq-Decides (get_or (paths active 1) k []) (get_or active k 0 ∷ [])).0
     (subst (λ m. bytes_eq (get_or (paths active 1) m []) (get_or active m 0 ∷ []) ≡ true) (omega arith)
@@ -52,16 +61,24 @@ pub record TwoBack (active : ChannelSet) (k : ℕ) : Type 0 where
   pub front : k / (length active - 1) < length active
   pub next : skipped (k / (length active - 1)) (k % (length active - 1)) < length active
 
-pub two_back_is : (active : ChannelSet) (k : ℕ) → is_set active ≡ true → k < length active * (length active - 1) → TwoBack active k
+pub two_back_is : (active : ChannelSet) (k : ℕ) → is_set active ≡ true → k < length active * (length active - 1) →
+    TwoBack active k
 unfolding back_right
 two_back_is active k set lt =
-    let P : ℕ → Bool = λ k. bytes_eq (get_or (paths active 2) k []) (two_back active k) && (nat_lt (k / (length active - 1)) (length active) && nat_lt (skipped (k / (length active - 1)) (k % (length active - 1))) (length active)) in
-    let h = both (list_all (λ k. bytes_eq (get_or (paths active 1) k []) (get_or active k 0 ∷ [])) (range_with_len 0 (length active)))
+    let P : ℕ → Bool = λ k. bytes_eq (get_or (paths active 2) k []) (two_back active k)
+    && (nat_lt (k / (length active - 1)) (length active)
+    && nat_lt (skipped (k / (length active - 1)) (k % (length active - 1))) (length active)) in
+    let h = both (list_all (λ k. bytes_eq (get_or (paths active 1) k []) (get_or active k 0 ∷ []))
+    (range_with_len 0 (length active)))
     (list_all P (range_with_len 0 (length active * (length active - 1)))) (backs active set) in
     let same : 0 + k ≡ k = omega arith in
-    let test : P k ≡ true = subst (λ m. P m ≡ true) same (in_range_all P 0 (length active * (length active - 1)) k h.1 lt) in
-    let one = both (bytes_eq (get_or (paths active 2) k []) (two_back active k)) (nat_lt (k / (length active - 1)) (length active) && nat_lt (skipped (k / (length active - 1)) (k % (length active - 1))) (length active)) test in
-    let two = both (nat_lt (k / (length active - 1)) (length active)) (nat_lt (skipped (k / (length active - 1)) (k % (length active - 1))) (length active)) one.1 in
+    let test : P k ≡ true = subst (λ m. P m ≡ true) same
+    (in_range_all P 0 (length active * (length active - 1)) k h.1 lt) in
+    let one = both (bytes_eq (get_or (paths active 2) k []) (two_back active k))
+    (nat_lt (k / (length active - 1)) (length active)
+    && nat_lt (skipped (k / (length active - 1)) (k % (length active - 1))) (length active)) test in
+    let two = both (nat_lt (k / (length active - 1)) (length active))
+    (nat_lt (skipped (k / (length active - 1)) (k % (length active - 1))) (length active)) one.1 in
     record {
       is = (bytes_eq-Decides (get_or (paths active 2) k []) (two_back active k)).0 one.0;
       front = leb-true (suc (k / (length active - 1))) (length active) two.0;

@@ -27,8 +27,10 @@ ranked_in active h = every_set all_ranked each_ranked active h
 
 at_length : (active : ChannelSet) (k : ℕ) → k ≤ 2 → all_ranked active ≡ true → ranked active (suc k) ≡ true
 unfolding all_ranked
-at_length active zero small h = (both (ranked active 1) (ranked active 2) (both (ranked active 1 && ranked active 2) (ranked active 3) h).0).0
-at_length active (suc zero) small h = (both (ranked active 1) (ranked active 2) (both (ranked active 1 && ranked active 2) (ranked active 3) h).0).1
+at_length active zero small h =
+    (both (ranked active 1) (ranked active 2) (both (ranked active 1 && ranked active 2) (ranked active 3) h).0).0
+at_length active (suc zero) small h =
+    (both (ranked active 1) (ranked active 2) (both (ranked active 1 && ranked active 2) (ranked active 3) h).0).1
 at_length active (suc (suc zero)) small h = (both (ranked active 1 && ranked active 2) (ranked active 3) h).1
 at_length active (suc (suc (suc k))) small h = absurd (omega (arith, small))
 
@@ -37,17 +39,23 @@ pub ranks_count : (active : ChannelSet) (k : ℕ) → is_set active ≡ true →
     map (rank active) (paths active (suc k)) ≡ numbers_below (length (paths active (suc k)))
 unfolding ranked
 ranks_count active k set small =
-    let parts = both (bytes_eq (map (rank active) (paths active (suc k))) (numbers_below (length (paths active (suc k)))))
-    (bytes_eq (map (λ y. rank_sum active [] (reverse y)) (paths active (suc k))) (numbers_below (length (paths active (suc k)))))
+    let parts = both (bytes_eq (map (rank active) (paths active (suc k)))
+    (numbers_below (length (paths active (suc k)))))
+    (bytes_eq (map (λ y. rank_sum active [] (reverse y)) (paths active (suc k)))
+    (numbers_below (length (paths active (suc k)))))
     (at_length active k small (ranked_in active set)) in
-    (bytes_eq-Decides (map (rank active) (paths active (suc k))) (numbers_below (length (paths active (suc k))))).0 parts.0
+    (bytes_eq-Decides (map (rank active) (paths active (suc k))) (numbers_below (length (paths active (suc k))))).0
+    parts.0
 
 -- and so are their sums
 pub sums_count : (active : ChannelSet) (k : ℕ) → is_set active ≡ true → k ≤ 2 →
     map (λ y. rank_sum active [] (reverse y)) (paths active (suc k)) ≡ numbers_below (length (paths active (suc k)))
 unfolding ranked
 sums_count active k set small =
-    let parts = both (bytes_eq (map (rank active) (paths active (suc k))) (numbers_below (length (paths active (suc k)))))
-    (bytes_eq (map (λ y. rank_sum active [] (reverse y)) (paths active (suc k))) (numbers_below (length (paths active (suc k)))))
+    let parts = both (bytes_eq (map (rank active) (paths active (suc k)))
+    (numbers_below (length (paths active (suc k)))))
+    (bytes_eq (map (λ y. rank_sum active [] (reverse y)) (paths active (suc k)))
+    (numbers_below (length (paths active (suc k)))))
     (at_length active k small (ranked_in active set)) in
-    (bytes_eq-Decides (map (λ y. rank_sum active [] (reverse y)) (paths active (suc k))) (numbers_below (length (paths active (suc k))))).0 parts.1
+    (bytes_eq-Decides (map (λ y. rank_sum active [] (reverse y)) (paths active (suc k)))
+    (numbers_below (length (paths active (suc k))))).0 parts.1

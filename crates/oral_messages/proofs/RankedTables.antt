@@ -19,22 +19,29 @@ use Rattle.oral_messages.proofs.PathsBack.{skipped, TwoBack, one_back_is, two_ba
 use Rattle.oral_messages.proofs.Formulas.{low, one_less, first_place, second_place, third_place, AreSized, sizes}
 
 -- a label of a path is a channel, and so is each one before it
-pub label_small : (active : ChannelSet) (a : Channel) (y : PathValue) → is_set active ≡ true → is_path active (a ∷ y) ≡ true → a < 7
+pub label_small : (active : ChannelSet) (a : Channel) (y : PathValue) → is_set active ≡ true →
+    is_path active (a ∷ y) ≡ true → a < 7
 unfolding is_set
 label_small active a y set path =
     let parts = both (is_distinct (a ∷ y)) (has active a && list_all (has active) y) path in
     let there = both (has active a) (list_all (has active) y) parts.1 in
-    leb-true (suc a) 7 (member_passes is_channel active a (both (list_all is_channel active) (ascends active) set).0 there.0)
+    leb-true (suc a) 7 (member_passes is_channel active a (both (list_all is_channel active) (ascends active) set).0
+    there.0)
 
-pub shorter : (active : ChannelSet) (a : Channel) (y : PathValue) → is_path active (a ∷ y) ≡ true → is_path active y ≡ true
+pub shorter : (active : ChannelSet) (a : Channel) (y : PathValue) → is_path active (a ∷ y) ≡ true →
+    is_path active y ≡ true
 unfolding is_distinct
 shorter active a y path =
     let parts = both (not (has y a) && is_distinct y) (has active a && list_all (has active) y) path in
-    and_true (is_distinct y) (list_all (has active) y) (both (not (has y a)) (is_distinct y) parts.0).1 (both (has active a) (list_all (has active) y) parts.1).1
+    and_true (is_distinct y) (list_all (has active) y) (both (not (has y a)) (is_distinct y) parts.0).1
+    (both (has active a) (list_all (has active) y) parts.1).1
 
-pub rank_within : (active : ChannelSet) (y : PathValue) (k : ℕ) → is_set active ≡ true → is_path active y ≡ true → length y ≡ k → k ≤ 3 → rank active y < length (paths active k)
+pub rank_within : (active : ChannelSet) (y : PathValue) (k : ℕ) → is_set active ≡ true → is_path active y ≡ true →
+    length y ≡ k → k ≤ 3 → rank active y < length (paths active k)
 rank_within active y k set path long small =
-    subst (λ n. rank active y < length (paths active n)) long (slice_get_within (paths active (length y)) (rank active y) y (path_at active y set path (omega (arith, long, small))))
+    subst (λ n. rank active y < length (paths active n)) long
+    (slice_get_within (paths active (length y)) (rank active y) y
+    (path_at active y set path (omega (arith, long, small))))
 
 pub byte_is : (b : Bool) → cond b 1 0 ≡ bool_byte b
 byte_is true = refl
@@ -58,7 +65,8 @@ pub record ThirdPlace (active : ChannelSet) (count : ℕ) (below : List ℕ) (a 
   pub front_small : (rank active (b ∷ a ∷ []) * (count - 2)) ≤ 240
   pub whole : rank active (c ∷ b ∷ a ∷ []) < 343
   pub enough : bool_byte (nat_lt a c) + bool_byte (nat_lt b c) ≤ get_or below c 0
-  pub is : rank active (c ∷ b ∷ a ∷ []) ≡ rank active (b ∷ a ∷ []) * (count - 2) + ((get_or below c 0 - bool_byte (nat_lt a c)) - bool_byte (nat_lt b c))
+  pub is : rank active (c ∷ b ∷ a ∷ [])
+      ≡ rank active (b ∷ a ∷ []) * (count - 2) + ((get_or below c 0 - bool_byte (nat_lt a c)) - bool_byte (nat_lt b c))
 
 some_left : (n r : ℕ) → n ≤ 7 → r < n * (n - 1) → 2 ≤ n
 some_left zero r le lt = absurd (omega (arith, lt))
@@ -96,7 +104,8 @@ below_343 (suc (suc (suc (suc (suc (suc zero)))))) r le lt = omega (arith, lt)
 below_343 (suc (suc (suc (suc (suc (suc (suc zero))))))) r le lt = omega (arith, lt)
 below_343 (suc (suc (suc (suc (suc (suc (suc (suc n)))))))) r le lt = absurd (omega (arith, le))
 
-module _ (set : List Bool) (count : ℕ) (labels below : List ℕ) (active : ChannelSet) (tables : AreTables set count labels below) (view : members set ≡ active) where
+module _ (set : List Bool) (count : ℕ) (labels below : List ℕ) (active : ChannelSet)
+    (tables : AreTables set count labels below) (view : members set ≡ active) where
   pub is_set_of : is_set active ≡ true
   unfolding members
   is_set_of = subst (λ s. is_set s ≡ true) view (members_are_set set tables.seven)
@@ -112,17 +121,21 @@ module _ (set : List Bool) (count : ℕ) (labels below : List ℕ) (active : Cha
       let small : a < 7 = label_small active a [] is_set_of path in
       record { small = small; is = first_place active a is_set_of path ∙ low_is a small }
 
-  pub second_within : (a b : Channel) → is_path active (b ∷ a ∷ []) ≡ true → rank active (b ∷ a ∷ []) < count * (count - 1)
+  pub second_within : (a b : Channel) → is_path active (b ∷ a ∷ []) ≡ true →
+      rank active (b ∷ a ∷ []) < count * (count - 1)
   second_within a b path =
       let sized : AreSized active = sizes active is_set_of in
       subst (λ n. rank active (b ∷ a ∷ []) < n * (n - 1)) count_is
-      (subst (λ n. rank active (b ∷ a ∷ []) < n) sized.second (rank_within active (b ∷ a ∷ []) 2 is_set_of path refl (omega arith)))
+      (subst (λ n. rank active (b ∷ a ∷ []) < n) sized.second
+      (rank_within active (b ∷ a ∷ []) 2 is_set_of path refl (omega arith)))
 
-  pub third_within : (a b c : Channel) → is_path active (c ∷ b ∷ a ∷ []) ≡ true → rank active (c ∷ b ∷ a ∷ []) < count * (count - 1) * (count - 2)
+  pub third_within : (a b c : Channel) → is_path active (c ∷ b ∷ a ∷ []) ≡ true →
+      rank active (c ∷ b ∷ a ∷ []) < count * (count - 1) * (count - 2)
   third_within a b c path =
       let sized : AreSized active = sizes active is_set_of in
       subst (λ n. rank active (c ∷ b ∷ a ∷ []) < n * (n - 1) * (n - 2)) count_is
-      (subst (λ n. rank active (c ∷ b ∷ a ∷ []) < n) sized.third (rank_within active (c ∷ b ∷ a ∷ []) 3 is_set_of path refl (omega arith)))
+      (subst (λ n. rank active (c ∷ b ∷ a ∷ []) < n) sized.third
+      (rank_within active (c ∷ b ∷ a ∷ []) 3 is_set_of path refl (omega arith)))
 
   few : count ≤ 7
   few = let sized : AreSized active = sizes active is_set_of in subst (λ n. n ≤ 7) count_is sized.seven
@@ -137,7 +150,8 @@ module _ (set : List Bool) (count : ℕ) (labels below : List ℕ) (active : Cha
         small_a = small_a;
         small_b = small_b;
         some = omega (arith, two);
-        enough = subst (λ n. n ≤ get_or below b 0) (byte_is (nat_lt a b)) (subst (λ n. one_less a b ≤ n) (low_is b small_b) h.1);
+        enough = subst (λ n. n ≤ get_or below b 0) (byte_is (nat_lt a b))
+            (subst (λ n. one_less a b ≤ n) (low_is b small_b) h.1);
         is = h.0 ∙ ap (λ n. n * (length active - 1) + (low active b - one_less a b)) (low_is a small_a)
             ∙ ap (λ n. get_or below a 0 * (length active - 1) + (n - one_less a b)) (low_is b small_b)
             ∙ ap (λ n. get_or below a 0 * (n - 1) + (get_or below b 0 - one_less a b)) count_is
@@ -154,14 +168,19 @@ module _ (set : List Bool) (count : ℕ) (labels below : List ℕ) (active : Cha
         small_c = small_c;
         some = some_left count (rank active (b ∷ a ∷ [])) few within;
         front = front;
-        front_small = product (rank active (b ∷ a ∷ [])) (count - 2) (below_49 count (rank active (b ∷ a ∷ [])) few within) (omega (arith, few));
+        front_small = product (rank active (b ∷ a ∷ [])) (count - 2)
+            (below_49 count (rank active (b ∷ a ∷ [])) few within) (omega (arith, few));
         whole = below_343 count (rank active (c ∷ b ∷ a ∷ [])) few (third_within a b c path);
         enough = subst (λ n. n + bool_byte (nat_lt b c) ≤ get_or below c 0) (byte_is (nat_lt a c))
-            (subst (λ n. one_less a c + n ≤ get_or below c 0) (byte_is (nat_lt b c)) (subst (λ n. one_less a c + one_less b c ≤ n) (low_is c small_c) h.1));
-        is = h.0 ∙ ap (λ n. rank active (b ∷ a ∷ []) * (length active - 2) + ((n - one_less a c) - one_less b c)) (low_is c small_c)
+            (subst (λ n. one_less a c + n ≤ get_or below c 0) (byte_is (nat_lt b c))
+            (subst (λ n. one_less a c + one_less b c ≤ n) (low_is c small_c) h.1));
+        is = h.0 ∙ ap (λ n. rank active (b ∷ a ∷ []) * (length active - 2) + ((n - one_less a c) - one_less b c))
+            (low_is c small_c)
             ∙ ap (λ n. rank active (b ∷ a ∷ []) * (n - 2) + ((get_or below c 0 - one_less a c) - one_less b c)) count_is
-            ∙ ap (λ n. rank active (b ∷ a ∷ []) * (count - 2) + ((get_or below c 0 - n) - one_less b c)) (byte_is (nat_lt a c))
-            ∙ ap (λ n. rank active (b ∷ a ∷ []) * (count - 2) + ((get_or below c 0 - bool_byte (nat_lt a c)) - n)) (byte_is (nat_lt b c));
+            ∙ ap (λ n. rank active (b ∷ a ∷ []) * (count - 2) + ((get_or below c 0 - n) - one_less b c))
+            (byte_is (nat_lt a c))
+            ∙ ap (λ n. rank active (b ∷ a ∷ []) * (count - 2) + ((get_or below c 0 - bool_byte (nat_lt a c)) - n))
+            (byte_is (nat_lt b c));
       }
 
   -- ---- from a place back to its path
@@ -175,12 +194,15 @@ module _ (set : List Bool) (count : ℕ) (labels below : List ℕ) (active : Cha
   one_back k lt = one_back_is active k is_set_of lt ∙ ap (λ j. j ∷ []) (label_is k lt)
 
   pub two_back_at : (k : ℕ) → k < length active * (length active - 1) →
-      get_or (paths active 2) k [] ≡ get_or labels (skipped (k / (count - 1)) (k % (count - 1))) 0 ∷ get_or labels (k / (count - 1)) 0 ∷ []
+      get_or (paths active 2) k []
+      ≡ get_or labels (skipped (k / (count - 1)) (k % (count - 1))) 0 ∷ get_or labels (k / (count - 1)) 0 ∷ []
   two_back_at k lt =
       let h : TwoBack active k = two_back_is active k is_set_of lt in
       h.is
-      ∙ ap (λ j. j ∷ get_or active (k / (length active - 1)) 0 ∷ []) (label_is (skipped (k / (length active - 1)) (k % (length active - 1))) h.next)
-      ∙ ap (λ j. get_or labels (skipped (k / (length active - 1)) (k % (length active - 1))) 0 ∷ j ∷ []) (label_is (k / (length active - 1)) h.front)
+      ∙ ap (λ j. j ∷ get_or active (k / (length active - 1)) 0 ∷ [])
+      (label_is (skipped (k / (length active - 1)) (k % (length active - 1))) h.next)
+      ∙ ap (λ j. get_or labels (skipped (k / (length active - 1)) (k % (length active - 1))) 0 ∷ j ∷ [])
+      (label_is (k / (length active - 1)) h.front)
       ∙ ap (λ n. get_or labels (skipped (k / (n - 1)) (k % (n - 1))) 0 ∷ get_or labels (k / (n - 1)) 0 ∷ []) count_is
 
   pub front_within : (k : ℕ) → k < length active * (length active - 1) → k / (count - 1) < count
@@ -188,7 +210,8 @@ module _ (set : List Bool) (count : ℕ) (labels below : List ℕ) (active : Cha
       let h : TwoBack active k = two_back_is active k is_set_of lt in
       subst (λ n. k / (n - 1) < n) count_is h.front
 
-  pub next_within : (k : ℕ) → k < length active * (length active - 1) → skipped (k / (count - 1)) (k % (count - 1)) < count
+  pub next_within : (k : ℕ) → k < length active * (length active - 1) →
+      skipped (k / (count - 1)) (k % (count - 1)) < count
   next_within k lt =
       let h : TwoBack active k = two_back_is active k is_set_of lt in
       subst (λ n. skipped (k / (n - 1)) (k % (n - 1)) < n) count_is h.next

@@ -7,7 +7,9 @@ use Rattle.oral_messages.specs.Paths.{path_of}
 
 choose : ℕ → List ℕ → PathValue
 choose n at =
-    cond (n == 1) (slice_index at 0 ∷ []) (cond (n == 2) (slice_index at 1 ∷ slice_index at 0 ∷ []) (slice_index at 2 ∷ slice_index at 1 ∷ slice_index at 0 ∷ []))
+    cond (n == 1) (slice_index at 0 ∷ [])
+    (cond (n == 2) (slice_index at 1 ∷ slice_index at 0 ∷ [])
+    (slice_index at 2 ∷ slice_index at 1 ∷ slice_index at 0 ∷ []))
 
 pub path_one : (p : StoredPath) → p.count ≡ 1 → path_of p ≡ get_or p.at 0 0 ∷ []
 unfolding choose

@@ -62,7 +62,8 @@ pub record IsSameMember (a b : TreeValue) : Type 0 where
   pub own : a.own ≡ b.own
 
 -- the tree of a member before anything was received
-pub record BeginsTree (t : TreeValue) (members : ChannelSet) (me : Channel) (width : ℕ) (own : SourceValue) : Type 0 where
+pub record BeginsTree (t : TreeValue) (members : ChannelSet) (me : Channel) (width : ℕ) (own : SourceValue) : Type
+    0 where
   pub members_are : t.members ≡ members
   pub me_is : t.me ≡ me
   pub width_is : t.width ≡ width
@@ -81,7 +82,8 @@ pub record KeepsSecond (old new : TreeValue) (a b : Channel) (value : Option Sou
   pub same : IsSameMember new old
   pub first : new.first ≡ old.first
   pub second : new.second ≡ slice_set old.second (rank old.members (b ∷ a ∷ [])) value
-  pub third : 7 ≤ length old.members → a ≢ old.me → new.third ≡ slice_set old.third (rank old.members (old.me ∷ b ∷ a ∷ [])) value
+  pub third : 7 ≤ length old.members → a ≢ old.me →
+      new.third ≡ slice_set old.third (rank old.members (old.me ∷ b ∷ a ∷ [])) value
   pub own : a ≡ old.me → new.third ≡ old.third
 
 -- the same for the path a, b, c

@@ -45,7 +45,9 @@ pub fn told_of_sources(
     requires set { IsTrue (is_set members.now) }
     requires mine { IsTrue (has members.now me) }
     requires many { length values.now ≡ length members.now }
-    ensures items { IfOk result (λ items. (value : PathValue → Option SourceValue) → values.now ≡ map value (paths members.now 1) → items.items ≡ items_told me value (paths members.now 1)) }
+    ensures items { IfOk result
+        (λ items. (value : PathValue → Option SourceValue) → values.now ≡ map value (paths members.now 1) →
+        items.items ≡ items_told me value (paths members.now 1)) }
     ensures range { IfOk result (λ items. IsTrue (exchange_in_range me (record { round = 2; items = items.items }))) }
 {
     values_fit(values);
@@ -76,7 +78,9 @@ pub fn told_of_relays(
     requires set { IsTrue (is_set members.now) }
     requires mine { IsTrue (has members.now me) }
     requires many { length values.now ≡ length members.now * (length members.now - 1) }
-    ensures items { IfOk result (λ items. (value : PathValue → Option SourceValue) → values.now ≡ map value (paths members.now 2) → items.items ≡ items_told me value (paths members.now 2)) }
+    ensures items { IfOk result
+        (λ items. (value : PathValue → Option SourceValue) → values.now ≡ map value (paths members.now 2) →
+        items.items ≡ items_told me value (paths members.now 2)) }
     ensures range { IfOk result (λ items. IsTrue (exchange_in_range me (record { round = 3; items = items.items }))) }
 {
     values_fit(values);

@@ -35,7 +35,15 @@ impl Model for Tree {
 
     ghost Value = { TreeValue };
 
-    ghost view = { λ t. record { members = t.members; me = t.me; width = t.width; own = t.own; first = t.first.items; second = t.second.items; third = t.third.items } };
+    ghost view = { λ t. record {
+      members = t.members;
+      me = t.me;
+      width = t.width;
+      own = t.own;
+      first = t.first.items;
+      second = t.second.items;
+      third = t.third.items;
+    } };
 
     ghost invariant = { λ t. IsTreeInRange t.members t.me (vec_len t.first) (vec_len t.second) (vec_len t.third) };
 }
@@ -60,7 +68,8 @@ fn settle_each(values: &[Option<SourceWord>], place: usize) -> [Option<SourceWor
     requires long { length values.now ≡ 210 }
     requires within { place < 7 }
     ensures six { length result ≡ 6 }
-    ensures settled { (k : ℕ) → k < 6 → slice_index_or result k None ≡ majority_value (take 5 (drop ((place * 6 + k) * 5) values.now)) }
+    ensures settled { (k : ℕ) → k < 6 →
+        slice_index_or result k None ≡ majority_value (take 5 (drop ((place * 6 + k) * 5) values.now)) }
 {
     let mut branches = [None; 6];
     for next in 0..6usize {
@@ -149,7 +158,8 @@ impl Tree {
     pub fn level(&self, round: u8) -> &[Option<SourceWord>]
         requires low { 1 ≤ round }
         requires high { round ≤ tolerated_faults self.now.members + 1 }
-        ensures { (received : ReceivedItems) → Holds self.now received → result.now ≡ tree_level self.now received round }
+        ensures { (received : ReceivedItems) → Holds self.now received →
+            result.now ≡ tree_level self.now received round }
     {
         if round == 1 {
             self.first.as_slice()
@@ -163,7 +173,9 @@ impl Tree {
     /// The value that most branches say for the source, and theirs likewise.
     pub fn resolve(&self, source: Chan) -> Option<SourceWord>
         requires { IsTrue (has self.now.members source) }
-        ensures { (received : ReceivedItems) → Holds self.now received → result ≡ resolved_value self.now.members self.now.width self.now.me self.now.own received (tolerated_faults self.now.members) (source ∷ []) }
+        ensures { (received : ReceivedItems) → Holds self.now received →
+            result ≡ resolved_value self.now.members self.now.width self.now.me self.now.own received
+            (tolerated_faults self.now.members) (source ∷ []) }
     {
         let place = self.members.first(source.index());
         let count = self.members.count();
@@ -233,7 +245,8 @@ impl Tree {
         requires high { round ≤ tolerated_faults self.old.members + 1 }
         requires ranges { IsExchangeInRange (option_copied frame) round from }
         ensures same { IsSameMember self.new self.old }
-        ensures kept { (received : ReceivedItems) → Holds self.old received → received round from ≡ [] → Holds self.new (with_items_of received round from (items_of_frame (option_copied frame.entry))) }
+        ensures kept { (received : ReceivedItems) → Holds self.old received → received round from ≡ [] →
+            Holds self.new (with_items_of received round from (items_of_frame (option_copied frame.entry))) }
     {
         if let Some(exchange) = frame {
             self.keep_all(round, from.index(), exchange.items.as_slice());
@@ -246,7 +259,9 @@ impl Tree {
         requires low { 1 ≤ round }
         requires high { round ≤ tolerated_faults self.now.members + 1 }
         ensures round { IfOk result (λ exchange. exchange.round ≡ round) }
-        ensures items { IfOk result (λ exchange. (received : ReceivedItems) → Holds self.now received → exchange.items ≡ owed_items self.now received round) }
+        ensures items { IfOk result
+            (λ exchange. (received : ReceivedItems) → Holds self.now received →
+            exchange.items ≡ owed_items self.now received round) }
         // a frame of the holder may have it
         ensures range { IfOk result (λ exchange. IsTrue (exchange_in_range self.now.me exchange)) }
     {
@@ -268,7 +283,8 @@ impl Tree {
         requires high { round ≤ tolerated_faults self.old.members + 1 }
         requires ranges { IsTrue (list_all (item_in_range from round) items.now) }
         ensures same { IsSameMember self.new self.old }
-        ensures kept { (received : ReceivedItems) → Holds self.old received → received round from ≡ [] → Holds self.new (with_items_of received round from items.now) }
+        ensures kept { (received : ReceivedItems) → Holds self.old received → received round from ≡ [] →
+            Holds self.new (with_items_of received round from items.now) }
     {
         let mut left = items.len();
         while left > 0 {
@@ -285,7 +301,9 @@ impl Tree {
         requires high { round ≤ tolerated_faults self.old.members + 1 }
         requires ranges { IsTrue (item_in_range from round item.now) }
         ensures same { IsSameMember self.new self.old }
-        ensures kept { (received : ReceivedItems) (rest : List ItemValue) → Holds self.old (with_items_of received round from rest) → Holds self.new (with_items_of received round from (item.now ∷ rest)) }
+        ensures kept { (received : ReceivedItems) (rest : List ItemValue) →
+            Holds self.old (with_items_of received round from rest) →
+            Holds self.new (with_items_of received round from (item.now ∷ rest)) }
     {
         let missing = None;
         let word = word_for(self.width, item, &missing);

@@ -8,7 +8,8 @@ use guards_base::SourceWord;
 
 /// Whether more than so many of the values are equal to one. It looks at no more of them than decide that.
 fn more_equal(values: &[Option<SourceWord>], value: &Option<SourceWord>, bar: usize) -> bool
-    ensures { MatchBool result (bar < count_by (option_eq same_source_word value.now) values.now) (count_by (option_eq same_source_word value.now) values.now ≤ bar) }
+    ensures { MatchBool result (bar < count_by (option_eq same_source_word value.now) values.now)
+        (count_by (option_eq same_source_word value.now) values.now ≤ bar) }
 {
     match values {
         [] => false,

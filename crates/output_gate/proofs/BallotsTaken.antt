@@ -43,7 +43,8 @@ carry_is c q p y is =
     and_true true = refl
     and_true false = refl
 
-pub charge_is : (c : ℕ) (q p : Channel) (y : EntryValue) → IsFrom c q y → is_output_charge c p y ≡ ((q == p) && differs_from y.sent y.delivered)
+pub charge_is : (c : ℕ) (q p : Channel) (y : EntryValue) → IsFrom c q y →
+    is_output_charge c p y ≡ ((q == p) && differs_from y.sent y.delivered)
 charge_is c q p y is =
     ap (λ k. ((k == c && same_slot y.slot Output) && y.from == p) && differs_from y.sent y.delivered) is.cycle
     ∙ ap (λ s. ((c == c && same_slot s Output) && y.from == p) && differs_from y.sent y.delivered) is.slot
@@ -51,12 +52,14 @@ charge_is c q p y is =
     ∙ ap (λ b. ((b && true) && q == p) && differs_from y.sent y.delivered) (eq-eqb c c refl)
 
 -- a table with one place set
-set_place : {A : Type 0} (f g : Channel → A) (q : Channel) (x : A) → q < 7 → ((p : Channel) → g p ≡ cond (q == p) x (f p)) → set (by_channel f) q x ≡ by_channel g
+set_place : {A : Type 0} (f g : Channel → A) (q : Channel) (x : A) → q < 7 →
+    ((p : Channel) → g p ≡ cond (q == p) x (f p)) → set (by_channel f) q x ≡ by_channel g
 unfolding by_channel
 set_place f g q x low same = by q low ∙ sym (rw (same 0, same 1, same 2, same 3, same 4, same 5, same 6) refl)
   where
     by : (q : Channel) → q < 7 → set (f 0 ∷ f 1 ∷ f 2 ∷ f 3 ∷ f 4 ∷ f 5 ∷ f 6 ∷ []) q x
-        ≡ cond (q == 0) x (f 0) ∷ cond (q == 1) x (f 1) ∷ cond (q == 2) x (f 2) ∷ cond (q == 3) x (f 3) ∷ cond (q == 4) x (f 4) ∷ cond (q == 5) x (f 5) ∷ cond (q == 6) x (f 6) ∷ []
+        ≡ cond (q == 0) x (f 0) ∷ cond (q == 1) x (f 1) ∷ cond (q == 2) x (f 2) ∷ cond (q == 3) x (f 3)
+        ∷ cond (q == 4) x (f 4) ∷ cond (q == 5) x (f 5) ∷ cond (q == 6) x (f 6) ∷ []
     by zero low = refl
     by (suc zero) low = refl
     by (suc (suc zero)) low = refl
@@ -67,13 +70,19 @@ set_place f g q x low same = by q low ∙ sym (rw (same 0, same 1, same 2, same 
     by (suc (suc (suc (suc (suc (suc (suc n))))))) low = absurd (omega arith)
 
 module _ (version outputs c : ℕ) (q : Channel) (y : EntryValue) (now : Log) (is : IsFrom c q y) (low : q < 7) where
-  ballot_more : (p : Channel) → ballot_taken version outputs (y ∷ now) c p ≡ cond (q == p) (ballot_spelled version outputs c q y.delivered) (ballot_taken version outputs now c p)
+  ballot_more : (p : Channel) →
+      ballot_taken version outputs (y ∷ now) c p
+      ≡ cond (q == p) (ballot_spelled version outputs c q y.delivered) (ballot_taken version outputs now c p)
   ballot_more p =
-      ap (λ b. ballot_spelled version outputs c p (option_and_then (λ (e : EntryValue). e.delivered) (cond b (Some y) (find (is_carry c Output p actuator) now)))) (carry_is c q p y is)
+      ap (λ b. ballot_spelled version outputs c p
+      (option_and_then (λ (e : EntryValue). e.delivered)
+      (cond b (Some y) (find (is_carry c Output p actuator) now)))) (carry_is c q p y is)
       ∙ by (q == p) refl
     where
       by : (b : Bool) → (q == p) ≡ b →
-          ballot_spelled version outputs c p (option_and_then (λ (e : EntryValue). e.delivered) (cond b (Some y) (find (is_carry c Output p actuator) now)))
+          ballot_spelled version outputs c p
+          (option_and_then (λ (e : EntryValue). e.delivered)
+          (cond b (Some y) (find (is_carry c Output p actuator) now)))
           ≡ cond b (ballot_spelled version outputs c q y.delivered) (ballot_taken version outputs now c p)
       by true e = ap (λ r. ballot_spelled version outputs c r y.delivered) (sym (eqb_true q p e))
         where
@@ -81,8 +90,10 @@ module _ (version outputs c : ℕ) (q : Channel) (y : EntryValue) (now : Log) (i
           eqb_true a b h = grind (arith, h)
       by false e = refl
 
-  frames_more : set (ballots_taken version outputs now c) q (ballot_spelled version outputs c q y.delivered) ≡ ballots_taken version outputs (y ∷ now) c
-  frames_more = set_place (ballot_taken version outputs now c) (ballot_taken version outputs (y ∷ now) c) q (ballot_spelled version outputs c q y.delivered) low ballot_more
+  frames_more : set (ballots_taken version outputs now c) q (ballot_spelled version outputs c q y.delivered)
+      ≡ ballots_taken version outputs (y ∷ now) c
+  frames_more = set_place (ballot_taken version outputs now c) (ballot_taken version outputs (y ∷ now) c) q
+      (ballot_spelled version outputs c q y.delivered) low ballot_more
 
   module _ (disturbed : ChannelSet) where
     abbrev charged_now : Channel → Bool
@@ -92,7 +103,8 @@ module _ (version outputs c : ℕ) (q : Channel) (y : EntryValue) (now : Log) (i
     charged_more p = has disturbed p || (is_output_charge c p y || list_any (is_output_charge c p) now)
 
     set_more : (as_sent : Bool) → as_sent ≡ not (differs_from y.sent y.delivered) →
-        (if as_sent then channels_where charged_now else union (channels_where charged_now) (q ∷ [])) ≡ channels_where charged_more
+        (if as_sent then channels_where charged_now else union (channels_where charged_now) (q ∷ []))
+        ≡ channels_where charged_more
     set_more as_sent same = by as_sent (differs_from y.sent y.delivered) refl same
       where
         none : (a b r : Bool) → (a || r) ≡ (a || ((b && false) || r))
@@ -111,17 +123,20 @@ module _ (version outputs c : ℕ) (q : Channel) (y : EntryValue) (now : Log) (i
         differs h = absurd cc
 
         by : (a d : Bool) → differs_from y.sent y.delivered ≡ d → a ≡ not d →
-            (if a then channels_where charged_now else union (channels_where charged_now) (q ∷ [])) ≡ channels_where charged_more
+            (if a then channels_where charged_now else union (channels_where charged_now) (q ∷ []))
+            ≡ channels_where charged_more
         by true true e h = differs (sym h)
         by true false e h =
             sets_alike charged_now charged_more
             (λ p small. none (has disturbed p) (q == p) (list_any (is_output_charge c p) now)
-            ∙ ap (λ b. has disturbed p || (b || list_any (is_output_charge c p) now)) (ap (λ b. (q == p) && b) (sym e) ∙ sym (charge_is c q p y is)))
+            ∙ ap (λ b. has disturbed p || (b || list_any (is_output_charge c p) now))
+            (ap (λ b. (q == p) && b) (sym e) ∙ sym (charge_is c q p y is)))
         by false true e h =
             sets_alike (λ p. has (channels_where charged_now) p || has (q ∷ []) p) charged_more
             (λ p small. ap (λ b. b || ((q == p) || false)) (has-channels_where charged_now p small)
             ∙ some (has disturbed p) (q == p) (list_any (is_output_charge c p) now)
-            ∙ ap (λ b. has disturbed p || (b || list_any (is_output_charge c p) now)) (ap (λ b. (q == p) && b) (sym e) ∙ sym (charge_is c q p y is)))
+            ∙ ap (λ b. has disturbed p || (b || list_any (is_output_charge c p) now))
+            (ap (λ b. (q == p) && b) (sym e) ∙ sym (charge_is c q p y is)))
         by false false e h = differs h
 
 -- ---- line by line
@@ -132,18 +147,29 @@ module _ (may : List RuleValue → EntryValue → Type 0) (script : List RuleVal
   take_none (suc n) = refl
 
   -- the first few of one line are the first few of more
-  pub few_of_one : (old new : Log) (line : LineValue) (rest : List LineValue) → AreFewSent may script old new version outputs c (line ∷ []) → AreFewSent may script old new version outputs c (line ∷ rest)
+  pub few_of_one : (old new : Log) (line : LineValue) (rest : List LineValue) →
+      AreFewSent may script old new version outputs c (line ∷ []) →
+      AreFewSent may script old new version outputs c (line ∷ rest)
   few_of_one old new line rest h = by h.few h.sent
     where
-      by : (few : ℕ) → AreLinesSent may script old new version outputs c (take few (line ∷ [])) h.now → AreFewSent may script old new version outputs c (line ∷ rest)
+      by : (few : ℕ) → AreLinesSent may script old new version outputs c (take few (line ∷ [])) h.now →
+          AreFewSent may script old new version outputs c (line ∷ rest)
       by zero sent = record { few = 0; now = h.now; sent = sent }
-      by (suc n) sent = record { few = 1; now = h.now; sent = subst (λ ls. AreLinesSent may script old new version outputs c (line ∷ ls) h.now) (take_none n) sent }
+      by (suc n) sent = record {
+        few = 1;
+        now = h.now;
+        sent = subst (λ ls. AreLinesSent may script old new version outputs c (line ∷ ls) h.now) (take_none n) sent;
+      }
 
-  grow : (old mid new : Log) (y : EntryValue) (now : Log) → mid ≡ old ++ y ∷ [] → new ≡ mid ++ now → new ≡ old ++ y ∷ now
+  grow : (old mid new : Log) (y : EntryValue) (now : Log) → mid ≡ old ++ y ∷ [] → new ≡ mid ++ now →
+      new ≡ old ++ y ∷ now
   grow old mid new y now h k = k ∙ ap (λ l. l ++ now) h ∙ append_assoc old (y ∷ []) now
 
-  pub sent_then_few : (old mid new : Log) (line : LineValue) (rest : List LineValue) (as_sent : Bool) (ballot : Option (List ℤ)) →
-      HasSentLine may script old mid version outputs c line as_sent ballot → AreFewSent may script mid new version outputs c rest → AreFewSent may script old new version outputs c (line ∷ rest)
+  pub sent_then_few : (old mid new : Log) (line : LineValue) (rest : List LineValue) (as_sent : Bool)
+      (ballot : Option (List ℤ)) →
+      HasSentLine may script old mid version outputs c line as_sent ballot →
+      AreFewSent may script mid new version outputs c rest →
+      AreFewSent may script old new version outputs c (line ∷ rest)
   sent_then_few old mid new line rest as_sent ballot one others =
       record {
         few = suc others.few;
@@ -158,14 +184,16 @@ module _ (may : List RuleValue → EntryValue → Type 0) (script : List RuleVal
 
   -- nothing was sent
   pub nothing_taken : (log : Log) (disturbed : ChannelSet) → disturbed ≡ channels_where (has disturbed) →
-      HasTaken may script log log version outputs c disturbed [] (record { frames = replicate 7 None; disturbed = disturbed })
+      HasTaken may script log log version outputs c disturbed []
+      (record { frames = replicate 7 None; disturbed = disturbed })
   unfolding by_channel
   nothing_taken log disturbed set =
       let T : ChannelSet → TakenValue = λ s. record { frames = replicate 7 None; disturbed = s } in
       record {
         now = [];
         sent = record { grew = sym (append_nil log); due = tt; spelled = tt; allowed = tt };
-        taken_is = ap T (set ∙ sets_alike (has disturbed) (λ q. has disturbed q || false) (λ q low. or_false (has disturbed q)));
+        taken_is = ap T (set ∙ sets_alike (has disturbed) (λ q. has disturbed q || false)
+            (λ q low. or_false (has disturbed q)));
       }
     where
       append_nil : (xs : Log) → xs ++ [] ≡ xs
@@ -176,17 +204,28 @@ module _ (may : List RuleValue → EntryValue → Type 0) (script : List RuleVal
       or_false true = refl
       or_false false = refl
 
-  pub sent_then_all : (old mid new : Log) (line : LineValue) (rest : List LineValue) (as_sent : Bool) (ballot : Option (List ℤ)) (disturbed : ChannelSet) (others result : TakenValue) →
+  pub sent_then_all : (old mid new : Log) (line : LineValue) (rest : List LineValue) (as_sent : Bool)
+      (ballot : Option (List ℤ)) (disturbed : ChannelSet) (others result : TakenValue) →
       line.channel < 7 →
-      HasSentLine may script old mid version outputs c line as_sent ballot → HasTaken may script mid new version outputs c disturbed rest others →
-      result ≡ record { frames = set others.frames line.channel ballot; disturbed = (if as_sent then others.disturbed else union others.disturbed (line.channel ∷ [])) } →
+      HasSentLine may script old mid version outputs c line as_sent ballot →
+      HasTaken may script mid new version outputs c disturbed rest others →
+      result ≡ record {
+        frames = set others.frames line.channel ballot;
+        disturbed = (if as_sent then others.disturbed else union others.disturbed (line.channel ∷ []));
+      } →
       HasTaken may script old new version outputs c disturbed (line ∷ rest) result
   sent_then_all old mid new line rest as_sent ballot disturbed others result low one more with_one =
       let q = line.channel in
       let y = one.entry in
-      let is : IsFrom c q y = record { cycle = one.sent.due.0.cycle; slot = one.sent.due.0.slot; from = one.sent.due.0.from; to = one.sent.due.0.to } in
+      let is : IsFrom c q y = record {
+        cycle = one.sent.due.0.cycle;
+        slot = one.sent.due.0.slot;
+        from = one.sent.due.0.from;
+        to = one.sent.due.0.to;
+      } in
       let R : Ballots → ChannelSet → TakenValue = λ frames d. record { frames = frames; disturbed = d } in
-      let W : TakenValue → Option (List ℤ) → TakenValue = λ o b. R (set o.frames q b) (if as_sent then o.disturbed else union o.disturbed (q ∷ [])) in
+      let W : TakenValue → Option (List ℤ) →
+      TakenValue = λ o b. R (set o.frames q b) (if as_sent then o.disturbed else union o.disturbed (q ∷ [])) in
       record {
         now = y ∷ more.now;
         sent = record {
@@ -198,8 +237,11 @@ module _ (may : List RuleValue → EntryValue → Type 0) (script : List RuleVal
         taken_is = with_one
             ∙ ap (λ o. W o ballot) more.taken_is
             ∙ ap (W (taken_of version outputs c disturbed more.now)) one.ballot_is
-            ∙ ap (λ frames. R frames (if as_sent then disturbed_with disturbed c more.now else union (disturbed_with disturbed c more.now) (q ∷ []))) (frames_more version outputs c q y more.now is low)
-            ∙ ap (R (ballots_taken version outputs (y ∷ more.now) c)) (set_more version outputs c q y more.now is low disturbed as_sent one.same);
+            ∙ ap (λ frames. R frames (if as_sent then disturbed_with disturbed c more.now
+            else union (disturbed_with disturbed c more.now) (q ∷ [])))
+            (frames_more version outputs c q y more.now is low)
+            ∙ ap (R (ballots_taken version outputs (y ∷ more.now) c))
+            (set_more version outputs c q y more.now is low disturbed as_sent one.same);
       }
 
 pub no_items : {A : Type 0} (xs : List A) → length xs ≡ 0 → xs ≡ []

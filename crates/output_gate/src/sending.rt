@@ -172,7 +172,8 @@ fn send_line<B: Bus>(
     requires least { 1 ≤ outputs }
     requires most { outputs ≤ 8 }
     ensures script { (B.seen bus.new).script ≡ (B.seen bus.old).script }
-    ensures sent { IfOk result (λ sending. HasSentLine B.may (B.seen bus.old).script (B.seen bus.old).log (B.seen bus.new).log
+    ensures sent { IfOk result
+        (λ sending. HasSentLine B.may (B.seen bus.old).script (B.seen bus.old).log (B.seen bus.new).log
         version outputs cycle line.now sending.as_sent sending.ballot) }
     ensures some { OnErr result (AreFewSent B.may (B.seen bus.old).script (B.seen bus.old).log (B.seen bus.new).log
         version outputs cycle (line.now ∷ [])) }

@@ -126,7 +126,8 @@ others l m ws c other = by_list ws m other
       where
         by_test : (b : Bool) → list_any (covers l c) (cond b (m ∷ marks_drawn ms) (marks_drawn ms)) ≡ false
         by_test true =
-            ap (λ t. (t && (nat_le m.first c && nat_lt c m.past)) || list_any (covers l c) (marks_drawn ms)) strange ∙ rest
+            ap (λ t. (t && (nat_le m.first c && nat_lt c m.past)) || list_any (covers l c) (marks_drawn ms)) strange
+            ∙ rest
         by_test false = rest
 
     by_list : (ws : List Shown) (m : Mark) → same_lane m.lane l ≡ false →
@@ -137,7 +138,8 @@ others l m ws c other = by_list ws m other
       where
         by_test : (b : Bool) → list_any (covers l c) (marks_drawn (spans_on (longer_span m) ws)) ≡ false →
             list_any (covers l c) (marks_drawn (spans_on (next_mark m w) ws)) ≡ false →
-            list_any (covers l c) (marks_drawn (cond b (spans_on (longer_span m) ws) (m ∷ spans_on (next_mark m w) ws))) ≡ false
+            list_any (covers l c) (marks_drawn (cond b (spans_on (longer_span m) ws) (m ∷ spans_on (next_mark m w) ws)))
+            ≡ false
         by_test true longest next = longest
         by_test false longest next = absent m (spans_on (next_mark m w) ws) strange next
 
@@ -262,7 +264,8 @@ chained m (n ∷ ns) h other rest = (refl, h, other, rest)
 maximal : (m : Mark) (ws : List Shown) → m.first < m.past → AreMaximal m.first (spans_on m ws)
 maximal m [] h = (refl, h)
 maximal m (w ∷ ws) h =
-    by_test (same m.shown w) refl (maximal (longer_span m) ws (omega (arith, h))) (maximal (next_mark m w) ws (omega arith))
+    by_test (same m.shown w) refl (maximal (longer_span m) ws (omega (arith, h)))
+    (maximal (next_mark m w) ws (omega arith))
   where
     by_test : (b : Bool) → same m.shown w ≡ b → AreMaximal m.first (spans_on (longer_span m) ws) →
         AreMaximal m.past (spans_on (next_mark m w) ws) →

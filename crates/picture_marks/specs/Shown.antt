@@ -40,7 +40,8 @@ abbrev pub is_target_shown : Option (ChannelSet × ℕ) → ℕ → Channel → 
 is_target_shown None since q = false
 is_target_shown (Some t) since q = t.1 == since && has t.0 q
 
--- a target of the transfer of the cycle before is dropped where it has not joined, and is no target of the same transfer
+-- a target of the transfer of the cycle before is dropped where it has not joined, and is no target of the same
+-- transfer
 abbrev pub dropped_from : Option (ChannelSet × ℕ) → CycleFacts → Channel → Bool
 dropped_from None f q = false
 dropped_from (Some t) f q = has t.0 q && (not (has f.arrived q) && not (is_target_shown f.transfer t.1 q))

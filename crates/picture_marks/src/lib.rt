@@ -16,8 +16,8 @@ pub use facts::{CycleFacts, End};
 pub use shown::{Lane, Mark, Shown};
 pub use spans::marks;
 
-/// The marks tell what the report told: of each lane of the picture in each cycle they show what the facts of that cycle
-/// say, and of nothing else anything.
+/// The marks tell what the report told: of each lane of the picture in each cycle they show what the facts of that
+/// cycle say, and of nothing else anything.
 pub fn pictures_tell_reports()
     ensures { (channels outputs : ℕ) (told : List CycleFacts) (lane : Lane) (c : ℕ) →
         shown_at (marks_of channels outputs told) lane c ≡ told_at channels outputs told lane c }

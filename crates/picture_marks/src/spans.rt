@@ -64,7 +64,8 @@ fn push_spans(
     told: &[CycleFacts],
 ) -> Result<(), AllocError>
     requires { first.past + length told.now < 2 ^ 32 }
-    ensures { OnOk result (marks.new.items ≡ marks.old.items ++ marks_drawn (spans_on first (map (lane_shown_in lane) told.now))) }
+    ensures { OnOk result (marks.new.items
+        ≡ marks.old.items ++ marks_drawn (spans_on first (map (lane_shown_in lane) told.now))) }
 {
     let mut open = first;
     for facts in told {

@@ -72,7 +72,8 @@ Pictures src src' out out' NoMemory =
     ⊎ ((input : List ℕ) × (length input ≤ LIMIT) × TakesReport src src' input × IsAtEnd src'.left
     × Draws input out out' NoMemory)
 Pictures src src' out out' status =
-    (input : List ℕ) × (length input ≤ LIMIT) × TakesReport src src' input × IsAtEnd src'.left × Draws input out out' status
+    (input : List ℕ) × (length input ≤ LIMIT) × TakesReport src src' input × IsAtEnd src'.left
+    × Draws input out out' status
 
 -- What the program does: with words it tells how it is used, and reads nothing; with none it draws.
 abbrev pub Answers : ℕ → SourceView → SourceView → SinkView → SinkView → PictureStatus → Type 0

@@ -35,7 +35,8 @@ all_fit cycles c few h = by_width (two_widths cycles)
     by_width (inr e) =
         let low : c ≤ max 1 cycles = omega (arith, h) in
         let share : c * cycle_width cycles ≡ c * (101600 / max 1 cycles) = ap (λ w. c * w) e in
-        let most : c * (101600 / max 1 cycles) ≤ max 1 cycles * (101600 / max 1 cycles) = mul-le-mul_right (101600 / max 1 cycles) low in
+        let most : c * (101600 / max 1 cycles) ≤ max 1 cycles * (101600 / max 1 cycles) =
+        mul-le-mul_right (101600 / max 1 cycles) low in
         let all : max 1 cycles * (101600 / max 1 cycles) ≤ 101600 = mul-div-le 101600 (max 1 cycles) in
         omega (arith, share, most, all)
 

@@ -79,7 +79,8 @@ fn is_one(first: u32, past: u32) -> bool
 }
 
 fn span_words(alloc: Global, first: u32, last: u32) -> Result<String, AllocError>
-    ensures { IfOk result (λ text. string_bytes text ≡ codes "cycles " ++ decimal first ++ codes " to " ++ decimal last) }
+    ensures { IfOk result (λ text. string_bytes text
+        ≡ codes "cycles " ++ decimal first ++ codes " to " ++ decimal last) }
 {
     format!(in alloc; "cycles {first} to {last}")
 }

@@ -291,7 +291,8 @@ fn output_names(
     outputs: u8,
     scales: &[Option<Scale>],
 ) -> Result<String, AllocError>
-    ensures { IfOk result (λ text. string_bytes text ≡ flat_map (output_name channels scales.now) (numbers_below outputs)) }
+    ensures { IfOk result (λ text. string_bytes text
+        ≡ flat_map (output_name channels scales.now) (numbers_below outputs)) }
 {
     let mut text = String::new(alloc);
     for place in 0..outputs {
@@ -447,7 +448,8 @@ pub fn picture_text(
 ) -> Result<String, AllocError>
     requires channels { channels ≤ 7 }
     requires told { length told.now < 2 ^ 32 }
-    ensures { IfOk result (λ text. string_bytes text ≡ svg_of channels outputs cycles (length told.now) end.now (marks_of channels outputs told.now)) }
+    ensures { IfOk result (λ text. string_bytes text
+        ≡ svg_of channels outputs cycles (length told.now) end.now (marks_of channels outputs told.now)) }
 {
     let marks = marks(alloc, channels, outputs, told)?;
     let sheet = sheet_of(channels, outputs, cycles, &marks);

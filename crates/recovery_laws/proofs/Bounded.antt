@@ -21,18 +21,28 @@ module _ (M : MissionValue) (row : ℕ) where
   swept zero = tt
   swept (suc n) = (refl, writes_few M (row + n), swept n)
 
-  none_fits : (n : ℕ) → ((j : ℕ) → 1 ≤ j → j ≤ n → fits_after M row j ≡ false) → NoneFits M.rules.blocks M.rules.last (transfer_cycles M row n)
+  none_fits : (n : ℕ) → ((j : ℕ) → 1 ≤ j → j ≤ n → fits_after M row j ≡ false) →
+      NoneFits M.rules.blocks M.rules.last (transfer_cycles M row n)
   none_fits zero h = tt
-  none_fits (suc n) h =
-      (leb-false (length (remaining_blocks M.rules.blocks (transfer_cycles M row (suc n)))) M.rules.last (h (suc n) (omega arith) (omega arith)), none_fits n (λ j low high. h j low (omega (arith, high))))
+  none_fits (suc n) h = (
+    leb-false (length (remaining_blocks M.rules.blocks (transfer_cycles M row (suc n)))) M.rules.last
+        (h (suc n) (omega arith) (omega arith)),
+    none_fits n (λ j low high. h j low (omega (arith, high))),
+  )
 
   long : (n : ℕ) → length (transfer_cycles M row n) ≡ n
   long zero = refl
   long (suc n) = ap suc (long n)
 
-  few : (n bound : ℕ) → join_bound M.rules.blocks M.rules.sweep M.rules.last (most_blocks M.table) ≡ Some bound → ((j : ℕ) → 1 ≤ j → j ≤ n → fits_after M row j ≡ false) → n < bound
+  few : (n bound : ℕ) → join_bound M.rules.blocks M.rules.sweep M.rules.last (most_blocks M.table) ≡ Some bound →
+      ((j : ℕ) → 1 ≤ j → j ≤ n → fits_after M row j ≡ false) → n < bound
   few n bound h none =
-      omega (arith, long n, join_in_time M.rules.blocks M.rules.sweep M.rules.last (most_blocks M.table) bound (transfer_cycles M row n) h (swept n) (none_fits n none))
+      omega (
+        arith,
+        long n,
+        join_in_time M.rules.blocks M.rules.sweep M.rules.last (most_blocks M.table) bound
+            (transfer_cycles M row n) h (swept n) (none_fits n none),
+      )
 
 -- ---- a bound is small
 
@@ -51,12 +61,14 @@ ceil_small x d some = by (cases_lt x (div_ceil x d))
             let one : c * 1 ≤ c * d = mul-le-mul_left c some in
             omega (arith, big, high, one)
 
-bound_by : (blocks sweep last : ℕ) (w bound : ℕ) (a b : Bool) → nat_lt w sweep ≡ a → 1 ≤ blocks → cond (a && b) (Some (max 1 (div_ceil (blocks - last) (sweep - w)))) None ≡ Some bound → bound ≤ blocks
+bound_by : (blocks sweep last : ℕ) (w bound : ℕ) (a b : Bool) → nat_lt w sweep ≡ a → 1 ≤ blocks →
+    cond (a && b) (Some (max 1 (div_ceil (blocks - last) (sweep - w)))) None ≡ Some bound → bound ≤ blocks
 bound_by blocks sweep last w bound true true e some h =
     let less : suc w ≤ sweep = leb-true (suc w) sweep e in
     omega (arith, same h, some, ceil_small (blocks - last) (sweep - w) (omega (arith, less)))
   where
-    same : Some (max 1 (div_ceil (blocks - last) (sweep - w))) ≡ Some bound → bound ≡ max 1 (div_ceil (blocks - last) (sweep - w))
+    same : Some (max 1 (div_ceil (blocks - last) (sweep - w))) ≡ Some bound →
+        bound ≡ max 1 (div_ceil (blocks - last) (sweep - w))
     same h = cc
 bound_by blocks sweep last w bound true false e some h = absurd cc
 bound_by blocks sweep last w bound false true e some h = absurd cc
@@ -67,11 +79,15 @@ pub record EndsWithin (M : MissionValue) (row bound : ℕ) : Type 0 where
   pub is : transfer_length M row ≡ Some k
   pub small : k ≤ bound
 
-module _ (M : MissionValue) (row bound : ℕ) (mission : IsMission M) (bounded : join_bound M.rules.blocks M.rules.sweep M.rules.last (most_blocks M.table) ≡ Some bound) where
+module _ (M : MissionValue) (row bound : ℕ) (mission : IsMission M)
+    (bounded : join_bound M.rules.blocks M.rules.sweep M.rules.last (most_blocks M.table) ≡ Some bound) where
   bound_small : bound ≤ 256
   bound_small =
       let r = ranges M mission in
-      let most : bound ≤ M.rules.blocks = bound_by M.rules.blocks M.rules.sweep M.rules.last (most_blocks M.table) bound (nat_lt (most_blocks M.table) M.rules.sweep) (nat_le (most_blocks M.table) M.rules.last) refl r.some_blocks bounded in
+      let most : bound ≤ M.rules.blocks =
+      bound_by M.rules.blocks M.rules.sweep M.rules.last (most_blocks M.table) bound
+      (nat_lt (most_blocks M.table) M.rules.sweep) (nat_le (most_blocks M.table) M.rules.last) refl r.some_blocks
+      bounded in
       omega (arith, most, r.blocks)
 
   by_length : (o : Option ℕ) → transfer_length M row ≡ o → (k : ℕ) × (transfer_length M row ≡ Some k) × (k ≤ bound)
@@ -81,7 +97,8 @@ module _ (M : MissionValue) (row bound : ℕ) (mission : IsMission M) (bounded :
       small : IsFirst (fits_after M row) 1 k → k ≤ bound
       small first =
           let from : 1 ≤ k = first.from in
-          let before : k - 1 < bound = few M row (k - 1) bound bounded (λ j low high. first.none j low (omega (arith, from, high))) in
+          let before : k - 1 < bound =
+          few M row (k - 1) bound bounded (λ j low high. first.none j low (omega (arith, from, high))) in
           omega (arith, before, from)
 
   pub ends_within : (k : ℕ) × (transfer_length M row ≡ Some k) × (k ≤ bound)

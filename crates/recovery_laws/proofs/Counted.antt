@@ -17,14 +17,18 @@ module _ (M : MissionValue) where
   abbrev B : ℕ
   B = M.rules.blocks
 
-  noted : (cycles : List TransferCycle) (written : List ℕ) → tags_noted written (tags_of B cycles []) ≡ tags_of B cycles written
+  noted : (cycles : List TransferCycle) (written : List ℕ) →
+      tags_noted written (tags_of B cycles []) ≡ tags_of B cycles written
   unfolding tags_of
   noted cycles written = stand_noted (tags_of B cycles []) cycles written refl
 
   step : (c : ℕ) (cycles : List TransferCycle) →
-      next_tags M c (tags_of B cycles []) ≡ tags_of B (record { planned = planned_blocks B M.rules.sweep cycles; written = written_blocks M c } ∷ cycles) []
+      next_tags M c (tags_of B cycles [])
+      ≡ tags_of B (record { planned = planned_blocks B M.rules.sweep cycles; written = written_blocks M c }
+      ∷ cycles) []
   step c cycles =
-      ap (λ p. tags_closed p (tags_noted (written_blocks M c) (tags_of B cycles []))) (tags_plan B cycles [] M.rules.sweep)
+      ap (λ p. tags_closed p (tags_noted (written_blocks M c) (tags_of B cycles [])))
+      (tags_plan B cycles [] M.rules.sweep)
       ∙ ap (tags_closed (planned_blocks B M.rules.sweep cycles)) (noted cycles (written_blocks M c))
       ∙ tags_close B cycles (written_blocks M c) (planned_blocks B M.rules.sweep cycles)
 
@@ -37,13 +41,16 @@ module _ (M : MissionValue) where
       ap (λ rest. nat_le (length rest) M.rules.last)
       (sym (ap (λ (t : TagsValue). t.remaining) (after-is s n) ∙ tags_remain B (transfer_cycles M s n) []))
 
-  counted-is : (s n more : ℕ) (c : ℕ) (tags : TagsValue) → c ≡ s + n → tags ≡ tags_in_transfer M s n → counted_from M c tags (suc n) more ≡ first_from (fits_after M s) (suc n) more
+  counted-is : (s n more : ℕ) (c : ℕ) (tags : TagsValue) → c ≡ s + n → tags ≡ tags_in_transfer M s n →
+      counted_from M c tags (suc n) more ≡ first_from (fits_after M s) (suc n) more
   counted-is s n zero c tags e h = refl
   counted-is s n (suc more) c tags e h =
-      let next : next_tags M c tags ≡ tags_in_transfer M s (suc n) = ap (λ k. next_tags M k tags) e ∙ ap (next_tags M (s + n)) h in
+      let next : next_tags M c tags ≡ tags_in_transfer M s (suc n) =
+      ap (λ k. next_tags M k tags) e ∙ ap (next_tags M (s + n)) h in
       ap (λ b. cond b (Some (suc n)) (counted_from M (suc c) (next_tags M c tags) (suc (suc n)) more))
       (ap (λ (t : TagsValue). nat_le (length t.remaining) M.rules.last) next ∙ sym (fits-is s (suc n)))
-      ∙ ap (cond (fits_after M s (suc n)) (Some (suc n))) (counted-is s (suc n) more (suc c) (next_tags M c tags) (omega (arith, e)) next)
+      ∙ ap (cond (fits_after M s (suc n)) (Some (suc n)))
+      (counted-is s (suc n) more (suc c) (next_tags M c tags) (omega (arith, e)) next)
 
   pub counted_first : (row most : ℕ) → counted_length M row most ≡ first_from (fits_after M row) 1 most
   unfolding counted_length
@@ -74,7 +81,8 @@ module _ (M : MissionValue) where
   found_under row n zero k h = absurd cc
   found_under row n (suc rest) k h = under_by row n rest k (fits_after M row n) h (found_under row (suc n) rest k)
 
-  pub fewer_counted : (row most k : ℕ) → most ≤ 2000 → counted_length M row most ≡ Some k → transfer_length M row ≡ Some k
+  pub fewer_counted : (row most k : ℕ) → most ≤ 2000 → counted_length M row most ≡ Some k →
+      transfer_length M row ≡ Some k
   fewer_counted row most k few h =
       let there : first_from (fits_after M row) 1 most ≡ Some k = sym (counted_first row most) ∙ h in
       first_length row k (omega (arith, few, found_under row 1 most k there)) (found (fits_after M row) 1 most k there)
@@ -87,14 +95,19 @@ module _ (M : MissionValue) where
   pub cycles_of_row : (s n : ℕ) → transfer_cycles M (row_of M s) n ≡ transfer_cycles M s n
   cycles_of_row s zero = refl
   cycles_of_row s (suc n) =
-      ap (λ cycles. record { planned = planned_blocks B M.rules.sweep cycles; written = written_blocks M (row_of M s + n) } ∷ cycles) (cycles_of_row s n)
-      ∙ ap (λ written. record { planned = planned_blocks B M.rules.sweep (transfer_cycles M s n); written = written } ∷ transfer_cycles M s n)
+      ap (λ cycles. record {
+        planned = planned_blocks B M.rules.sweep cycles;
+        written = written_blocks M (row_of M s + n);
+      } ∷ cycles) (cycles_of_row s n)
+      ∙ ap (λ written. record { planned = planned_blocks B M.rules.sweep (transfer_cycles M s n); written = written }
+      ∷ transfer_cycles M s n)
       (written_in_row (row_of M s + n) (s + n) (mod-add-mod s (length M.table) n))
 
   pub first_alike : (f g : ℕ → Bool) (n more : ℕ) → ((j : ℕ) → f j ≡ g j) → first_from f n more ≡ first_from g n more
   first_alike f g n zero h = refl
   first_alike f g n (suc more) h =
-      ap (λ b. cond b (Some n) (first_from f (suc n) more)) (h n) ∙ ap (cond (g n) (Some n)) (first_alike f g (suc n) more h)
+      ap (λ b. cond b (Some n) (first_from f (suc n) more)) (h n)
+      ∙ ap (cond (g n) (Some n)) (first_alike f g (suc n) more h)
 
   pub fits_of_row : (s j : ℕ) → fits_after M (row_of M s) j ≡ fits_after M s j
   fits_of_row s j = ap (λ cycles. nat_le (length (remaining_blocks B cycles)) M.rules.last) (cycles_of_row s j)
@@ -107,7 +120,8 @@ module _ (M : MissionValue) where
 
   module _ (s i d : ℕ) (round : GoesRound M s i d) where
     row_again : (k : ℕ) → row_of M (k + d) ≡ row_of M k
-    row_again k = sym (add-mod-mod k d (length M.table)) ∙ ap (λ r. (k + r) % length M.table) round.rows ∙ ap (λ r. r % length M.table) (plus_none k)
+    row_again k = sym (add-mod-mod k d (length M.table)) ∙ ap (λ r. (k + r) % length M.table) round.rows
+        ∙ ap (λ r. r % length M.table) (plus_none k)
       where
         plus_none : (k : ℕ) → k + 0 ≡ k
         plus_none k = omega arith
@@ -128,15 +142,18 @@ module _ (M : MissionValue) where
         let place : s + n2 ≡ s + m2 + d = omega arith in
         ap (tags_in_transfer M s) en
         ∙ ap (next_tags M (s + n2)) (tags_again j n2 m2 refl refl)
-        ∙ ap (λ written. tags_closed (plan_by_tags M.rules.sweep (tags_in_transfer M s m2)) (tags_noted written (tags_in_transfer M s m2)))
+        ∙ ap (λ written. tags_closed (plan_by_tags M.rules.sweep (tags_in_transfer M s m2))
+        (tags_noted written (tags_in_transfer M s m2)))
         (written_in_row (s + n2) (s + m2) (ap (row_of M) place ∙ row_again (s + m2)))
         ∙ ap (tags_in_transfer M s) em
 
     unfit_soon : (n : ℕ) → 1 ≤ n → n ≤ i + d → fits_after M s n ≡ false
-    unfit_soon n low high = none_passes (fits_after M s) 1 (i + d) (sym (counted_first s (i + d)) ∙ round.unfit) n low (omega (arith, high))
+    unfit_soon n low high = none_passes (fits_after M s) 1 (i + d) (sym (counted_first s (i + d)) ∙ round.unfit) n low
+        (omega (arith, high))
 
     -- where the rest does not fit after fewer cycles
-    unfit_next : (N n : ℕ) → 1 ≤ n → n ≤ suc N → ((m : ℕ) → 1 ≤ m → m ≤ N → fits_after M s m ≡ false) → (i + d < n) ⊎ (n ≤ i + d) → fits_after M s n ≡ false
+    unfit_next : (N n : ℕ) → 1 ≤ n → n ≤ suc N → ((m : ℕ) → 1 ≤ m → m ≤ N → fits_after M s m ≡ false) → (i + d < n)
+        ⊎ (n ≤ i + d) → fits_after M s n ≡ false
     unfit_next N n low high before (inr soon) = unfit_soon n low soon
     unfit_next N n low high before (inl late) =
         let j : ℕ = n - (i + d) in

@@ -25,7 +25,8 @@ use Rattle.guards_laws.proofs.RunFacts.{IsCycle, frame_in_range}
 use Rattle.recovery_laws.specs.WrongVotes.{VotesWrong, SendsWrong}
 use Rattle.recovery_laws.proofs.JudgedCounts.{low_now}
 
-module _ (M : MissionValue) (L : Log) (n : ℕ) (mission : IsMission M) (early : n ≤ M.cycles) (run : HasRun M L n) (c : ℕ) (soon : c < n) (q : Channel) where
+module _ (M : MissionValue) (L : Log) (n : ℕ) (mission : IsMission M) (early : n ≤ M.cycles) (run : HasRun M L n)
+    (c : ℕ) (soon : c < n) (q : Channel) where
   abbrev past : Past
   past = cycles_before M L c
 
@@ -44,19 +45,26 @@ module _ (M : MissionValue) (L : Log) (n : ℕ) (mission : IsMission M) (early :
 
     in_range : body_in_range M.rules.version q (vote_body own) ≡ true
     in_range =
-        let outputs = both (within 1 8 (length M.outputs)) (list_all (λ o. nat_lt o.0 M.rules.blocks && nat_lt o.1 8) M.outputs) mission.outputs in
+        let outputs = both (within 1 8 (length M.outputs))
+        (list_all (λ o. nat_lt o.0 M.rules.blocks && nat_lt o.1 8) M.outputs) mission.outputs in
         let ctx : ContextValue = context_or_none (place_or now.contexts_after q None) in
         and_true (between 1 8 (length own)) (list_all is_word own)
         (subst (λ k. between 1 8 k ≡ true) (sym (length-map M.outputs (λ o. context_word ctx o.0 o.1))) outputs.0)
-        (all-map is_word (λ o. context_word ctx o.0 o.1) M.outputs (λ o. word_at_in ctx o.0 o.1 (held_good M L mission c q low (omega (arith, soon, early)))))
+        (all-map is_word (λ o. context_word ctx o.0 o.1) M.outputs
+        (λ o. word_at_in ctx o.0 o.1 (held_good M L mission c q low (omega (arith, soon, early)))))
 
-    got : (j : Channel) → has now.active j ≡ true → (q == j) ≡ false → ballot_of (received_body M now.entries (length past) Vote q j) ≡ Some own
+    got : (j : Channel) → has now.active j ≡ true → (q == j) ≡ false →
+        ballot_of (received_body M now.entries (length past) Vote q j) ≡ Some own
     got j member other =
         let r : IsReceived M past now Vote q j =
-        received_if_fits M past now Vote q j (cycle.due Vote q j refl refl low (and_true (has now.active q) (is_up (mode_in now q Vote)) there sends.up) member other) sends.intact in
+        received_if_fits M past now Vote q j
+        (cycle.due Vote q j refl refl low (and_true (has now.active q) (is_up (mode_in now q Vote)) there sends.up)
+        member other) sends.intact in
         ap ballot_of
         (r.got_is (frame_in_range M L c Switch cycle q (vote_body own) low in_range)
-        (eq-eqb (length own) (length M.outputs) (length-map M.outputs (λ o. context_word (context_or_none (place_or now.contexts_after q None)) o.0 o.1))))
+        (eq-eqb (length own) (length M.outputs)
+        (length-map M.outputs (λ o. context_word (context_or_none (place_or now.contexts_after q None)) o.0 o.1))))
 
     pub sent_wrong : VotesWrong M past now q
-    sent_wrong j member other = ap (is_wrong (map (λ w. Some w) (output_words M now.ideal_context))) (got j member other) ∙ sends.wrong
+    sent_wrong j member other =
+        ap (is_wrong (map (λ w. Some w) (output_words M now.ideal_context))) (got j member other) ∙ sends.wrong

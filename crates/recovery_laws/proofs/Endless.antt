@@ -20,7 +20,16 @@ left_same n m rows late same =
     let a = mod-add-div n rows in
     let b = mod-add-div m rows in
     elim (cases_lt (m / rows) (n / rows)) [
-      | inl back ↦ absurd (omega (arith, a, b, same, late, back, Rattle.std.proofs.Math.Nat.mul-le-mul_left {n = n / rows} rows back, next rows (m / rows)))
+      | inl back ↦ absurd (omega (
+        arith,
+        a,
+        b,
+        same,
+        late,
+        back,
+        Rattle.std.proofs.Math.Nat.mul-le-mul_left {n = n / rows} rows back,
+        next rows (m / rows),
+      ))
       | inr on ↦ ap (λ k. k % rows) (difference on) ∙ mul-mod_right rows (m / rows - n / rows)
     ]
   where
@@ -33,11 +42,22 @@ left_same n m rows late same =
     difference : n / rows ≤ m / rows → m - n ≡ rows * (m / rows - n / rows)
     difference on =
         let place : m / rows ≡ n / rows + (m / rows - n / rows) = omega (arith, on) in
-        omega (arith, mod-add-div n rows, mod-add-div m rows, same, ap (λ k. rows * k) place, times rows (n / rows) (m / rows - n / rows))
+        omega (
+          arith,
+          mod-add-div n rows,
+          mod-add-div m rows,
+          same,
+          ap (λ k. rows * k) place,
+          times rows (n / rows) (m / rows - n / rows),
+        )
 
 some_rows : (M : MissionValue) → IsMission M → 0 < length M.table
 some_rows M mission =
-    let a = both (within 1 16 (length M.table)) (Rattle.std.specs.List.list_all (λ cycle_writes. nat_le (length cycle_writes) 16 && Rattle.std.specs.List.list_all (is_task_in_range M.rules.blocks M.width) cycle_writes) M.table) mission.table in
+    let a = both (within 1 16 (length M.table))
+    (Rattle.std.specs.List.list_all
+    (λ cycle_writes. nat_le (length cycle_writes) 16
+    && Rattle.std.specs.List.list_all (is_task_in_range M.rules.blocks M.width) cycle_writes) M.table)
+    mission.table in
     leb-true 1 (length M.table) (both (nat_le 1 (length M.table)) (nat_le (length M.table) 16) a.0).0
 
 module _ (M : MissionValue) (row : ℕ) where
@@ -55,7 +75,9 @@ module _ (M : MissionValue) (row : ℕ) where
       let first = found (fits_after M row) n more k h in
       elim (cases_lt k (n + more)) [
         | inl under ↦ under
-        | inr over ↦ absurd (none_some (sym (none_first (fits_after M row) n more (λ j low high. first.none j low (omega (arith, high, over)))) ∙ h))
+        | inr over ↦ absurd (none_some
+            (sym (none_first (fits_after M row) n more (λ j low high. first.none j low (omega (arith, high, over))))
+            ∙ h))
       ]
     where
       none_some : None ≡ Some k → ⊥
@@ -76,9 +98,12 @@ module _ (M : MissionValue) (row : ℕ) where
         d,
         record {
           some = omega (arith, r.earlier);
-          rows = ap (λ k. k % length M.table) (apart r.first r.second) ∙ left_same (row + r.first) (row + r.second) (length M.table) (omega (arith, r.earlier)) tells.0;
+          rows = ap (λ k. k % length M.table) (apart r.first r.second)
+              ∙ left_same (row + r.first) (row + r.second) (length M.table) (omega (arith, r.earlier)) tells.0;
           again = ap (Rattle.recovery_laws.specs.Lengths.tags_in_transfer M row) place ∙ sym tells.1;
-          unfit = counted_first M row (r.first + d) ∙ none_first (fits_after M row) 1 (r.first + d) (λ j low high. none j low (omega (arith, high, place, r.within)));
+          unfit = counted_first M row (r.first + d)
+              ∙ none_first (fits_after M row) 1 (r.first + d)
+              (λ j low high. none j low (omega (arith, high, place, r.within)));
         },
         omega (arith, place, r.within),
       )
@@ -86,22 +111,30 @@ module _ (M : MissionValue) (row : ℕ) where
       apart : (n m : ℕ) → m - n ≡ (row + m) - (row + n)
       apart n m = omega arith
 
-  by_search : (mission : IsMission M) (o : Option ℕ) → first_from (fits_after M row) 1 (most_states M) ≡ o → EndsOrGoesRound M row
+  by_search : (mission : IsMission M) (o : Option ℕ) → first_from (fits_after M row) 1 (most_states M) ≡ o →
+      EndsOrGoesRound M row
   by_search mission (Some k) e =
-      inl (k, first_is k (found (fits_after M row) 1 (most_states M) k e), omega (arith, found_under 1 (most_states M) k e))
+      inl (
+        k,
+        first_is k (found (fits_after M row) 1 (most_states M) k e),
+        omega (arith, found_under 1 (most_states M) k e),
+      )
   by_search mission None e =
-      inr (goes_round mission (λ j low high. none_passes (fits_after M row) 1 (most_states M) e j low (omega (arith, high))))
+      inr (goes_round mission (λ j low high.
+      none_passes (fits_after M row) 1 (most_states M) e j low (omega (arith, high))))
 
   pub ends_or_round : IsMission M → EndsOrGoesRound M row
   ends_or_round mission = by_search mission (first_from (fits_after M row) 1 (most_states M)) refl
 
   -- ---- the decision
 
-  never_by : (o : Option ℕ) → first_from (fits_after M row) 1 (most_states M) ≡ o → is_none o ≡ true → (j : ℕ) → 1 ≤ j → j ≤ most_states M → fits_after M row j ≡ false
+  never_by : (o : Option ℕ) → first_from (fits_after M row) 1 (most_states M) ≡ o → is_none o ≡ true → (j : ℕ) → 1 ≤ j →
+      j ≤ most_states M → fits_after M row j ≡ false
   never_by None e h j low high = none_passes (fits_after M row) 1 (most_states M) e j low (omega (arith, high))
   never_by (Some k) e h j low high = absurd cc
 
-  pub round_of : IsMission M → never_ends M row ≡ true → (i : ℕ) × (d : ℕ) × GoesRound M row i d × (i + d ≤ most_states M)
+  pub round_of : IsMission M → never_ends M row ≡ true →
+      (i : ℕ) × (d : ℕ) × GoesRound M row i d × (i + d ≤ most_states M)
   unfolding never_ends
   round_of mission never = goes_round mission (never_by (first_from (fits_after M row) 1 (most_states M)) refl never)
 
@@ -120,9 +153,14 @@ module _ (M : MissionValue) (row : ℕ) where
   pub never_if_round : (i d : ℕ) → GoesRound M row i d → never_ends M row ≡ true
   never_if_round i d round = never_if (λ n. never_fits M row i d round n)
 
-  ends_by : (o : Option ℕ) → first_from (fits_after M row) 1 (most_states M) ≡ o → is_none o ≡ false → (k : ℕ) × FitsFirst M row k × (k ≤ most_states M)
+  ends_by : (o : Option ℕ) → first_from (fits_after M row) 1 (most_states M) ≡ o → is_none o ≡ false →
+      (k : ℕ) × FitsFirst M row k × (k ≤ most_states M)
   ends_by None e h = absurd cc
-  ends_by (Some k) e h = (k, first_is k (found (fits_after M row) 1 (most_states M) k e), omega (arith, found_under 1 (most_states M) k e))
+  ends_by (Some k) e h = (
+    k,
+    first_is k (found (fits_after M row) 1 (most_states M) k e),
+    omega (arith, found_under 1 (most_states M) k e),
+  )
 
   pub ends_at_first : never_ends M row ≡ false → (k : ℕ) × FitsFirst M row k × (k ≤ most_states M)
   unfolding never_ends
@@ -161,4 +199,5 @@ module _ (M : MissionValue) (row : ℕ) where
 
   pub never_of_row : never_ends M (row_of M row) ≡ never_ends M row
   unfolding never_ends
-  never_of_row = ap is_none (first_alike M (fits_after M (row_of M row)) (fits_after M row) 1 (most_states M) (fits_of_row M row))
+  never_of_row = ap is_none
+      (first_alike M (fits_after M (row_of M row)) (fits_after M row) 1 (most_states M) (fits_of_row M row))

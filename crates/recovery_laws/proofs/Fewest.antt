@@ -32,15 +32,18 @@ more_by false b = omega arith
 
 count-more : (w p : ℕ → Bool) (xs : List ℕ) → count_by p xs ≤ count_by (λ b. w b || p b) xs
 count-more w p [] = omega arith
-count-more w p (x ∷ xs) = omega (arith, count-cons p x xs, count-cons (λ b. w b || p b) x xs, more_by (w x) (p x), count-more w p xs)
+count-more w p (x ∷ xs) =
+    omega (arith, count-cons p x xs, count-cons (λ b. w b || p b) x xs, more_by (w x) (p x), count-more w p xs)
 
 count_all : (xs : List ℕ) → count_by (remains []) xs ≡ length xs
 unfolding one_if
 count_all [] = refl
 count_all (x ∷ xs) = omega (arith, count-cons (remains []) x xs, count_all xs)
 
-all_below : (blocks : ℕ) (xs : List ℕ) → list_all (λ b. nat_lt b blocks) xs ≡ true → list_all (has (numbers_below blocks)) xs ≡ true
-all_below blocks xs h = weaken (λ b. nat_lt b blocks) (has (numbers_below blocks)) xs (λ b k. below_there blocks b (leb-true (suc b) blocks k)) h
+all_below : (blocks : ℕ) (xs : List ℕ) → list_all (λ b. nat_lt b blocks) xs ≡ true →
+    list_all (has (numbers_below blocks)) xs ≡ true
+all_below blocks xs h = weaken (λ b. nat_lt b blocks) (has (numbers_below blocks)) xs
+    (λ b k. below_there blocks b (leb-true (suc b) blocks k)) h
 
 -- ---- one cycle lowers the number by no more than a plan's blocks
 
@@ -48,7 +51,9 @@ left_after : ℕ → List TransferCycle → ℕ
 left_after blocks cycles = count_by (remains cycles) (numbers_below blocks)
 
 one_cycle : (blocks sweep : ℕ) (written : List ℕ) (earlier : List TransferCycle) →
-    left_after blocks earlier ≤ left_after blocks (record { planned = planned_blocks blocks sweep earlier; written = written } ∷ earlier) + sweep
+    left_after blocks earlier
+    ≤ left_after blocks (record { planned = planned_blocks blocks sweep earlier; written = written }
+    ∷ earlier) + sweep
 unfolding left_after
 one_cycle blocks sweep written earlier =
     let xs : List ℕ = numbers_below blocks in
@@ -59,9 +64,12 @@ one_cycle blocks sweep written earlier =
     let e : TransferCycle = record { planned = P; written = written } in
     let small : length P ≡ min sweep (length chosen) = length-take sweep chosen in
     let split : count_by p (without xs P) + count_by p P ≡ count_by p xs =
-    count-split p xs P (ascends_distinct xs (below_ascends blocks)) (distinct-take sweep chosen (distinct-filter p order (cyclic_distinct blocks (sweep_cursor blocks earlier))))
-    (all_below blocks P (all-take (λ b. nat_lt b blocks) sweep chosen (all-filter (λ b. nat_lt b blocks) p order (cyclic_under blocks (sweep_cursor blocks earlier))))) in
-    let rest : count_by p (without xs P) ≡ count_by (λ b. not (has P b) && p b) xs = count-filter (λ b. not (has P b)) p xs in
+    count-split p xs P (ascends_distinct xs (below_ascends blocks))
+    (distinct-take sweep chosen (distinct-filter p order (cyclic_distinct blocks (sweep_cursor blocks earlier))))
+    (all_below blocks P (all-take (λ b. nat_lt b blocks) sweep chosen
+    (all-filter (λ b. nat_lt b blocks) p order (cyclic_under blocks (sweep_cursor blocks earlier))))) in
+    let rest : count_by p (without xs P) ≡ count_by (λ b. not (has P b) && p b) xs =
+    count-filter (λ b. not (has P b)) p xs in
     let steps : count_by (remains (e ∷ earlier)) xs ≡ count_by (λ b. has written b || (not (has P b) && p b)) xs =
     count-same (remains (e ∷ earlier)) (λ b. has written b || (not (has P b) && p b)) xs (remains-step e earlier) in
     let more = count-more (has written) (λ b. not (has P b) && p b) xs in
@@ -74,15 +82,22 @@ module _ (M : MissionValue) (row : ℕ) where
   unfolding left_after
   all_cycles zero = omega (arith, count_all (numbers_below M.rules.blocks), length-range_with_len 0 M.rules.blocks)
   all_cycles (suc n) =
-      let one : left_after M.rules.blocks (transfer_cycles M row n) ≤ left_after M.rules.blocks (transfer_cycles M row (suc n)) + M.rules.sweep
+      let one : left_after M.rules.blocks (transfer_cycles M row n)
+      ≤ left_after M.rules.blocks (transfer_cycles M row (suc n)) + M.rules.sweep
       = one_cycle M.rules.blocks M.rules.sweep (written_blocks M (row + n)) (transfer_cycles M row n) in
       omega (arith, all_cycles n, one)
 
   copies_all : (k : ℕ) → fits_after M row k ≡ true → M.rules.blocks ≤ M.rules.last + k * M.rules.sweep
   unfolding left_after
   copies_all k fits =
-      let small : length (remaining_blocks M.rules.blocks (transfer_cycles M row k)) ≤ M.rules.last = leb-true (length (remaining_blocks M.rules.blocks (transfer_cycles M row k))) M.rules.last fits in
-      omega (arith, small, length-filter (remains (transfer_cycles M row k)) (numbers_below M.rules.blocks), all_cycles k)
+      let small : length (remaining_blocks M.rules.blocks (transfer_cycles M row k)) ≤ M.rules.last =
+      leb-true (length (remaining_blocks M.rules.blocks (transfer_cycles M row k))) M.rules.last fits in
+      omega (
+        arith,
+        small,
+        length-filter (remains (transfer_cycles M row k)) (numbers_below M.rules.blocks),
+        all_cycles k,
+      )
 
 ceil_least : (x d k : ℕ) → 0 < d → x ≤ k * d → div_ceil x d ≤ k
 ceil_least x d k some h = by (cases_lt k (div_ceil x d))
@@ -94,7 +109,8 @@ ceil_least x d k some h = by (cases_lt k (div_ceil x d))
         let low : suc k * d ≤ div_ceil x d * d = mul-le-mul_right d big in
         absurd (omega (arith, high, low, h))
 
-pub no_fewer : (M : MissionValue) (row k : ℕ) → IsMission M → transfer_length M row ≡ Some k → max 1 (div_ceil (M.rules.blocks - M.rules.last) M.rules.sweep) ≤ k
+pub no_fewer : (M : MissionValue) (row k : ℕ) → IsMission M → transfer_length M row ≡ Some k →
+    max 1 (div_ceil (M.rules.blocks - M.rules.last) M.rules.sweep) ≤ k
 no_fewer M row k mission h =
     let first = length_first M row k h in
     let from : 1 ≤ k = first.from in

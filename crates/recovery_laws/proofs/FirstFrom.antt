@@ -14,16 +14,25 @@ same_number n k h = cc
 
 module _ (f : ℕ → Bool) where
   later : (n k : ℕ) → f n ≡ false → IsFirst f (suc n) k → IsFirst f n k
-  later n k e first = record { from = omega (arith, first.from); passes = first.passes; none = λ j low high. here j high (cases_lt n j) low }
+  later n k e first = record {
+    from = omega (arith, first.from);
+    passes = first.passes;
+    none = λ j low high. here j high (cases_lt n j) low;
+  }
     where
       here : (j : ℕ) → j < k → (n < j) ⊎ (j ≤ n) → n ≤ j → f j ≡ false
       here j high (inl above) low = first.none j above high
       here j high (inr under) low = let same : j ≡ n = omega (arith, under, low) in ap f same ∙ e
 
-  found_by : (n more k : ℕ) (b : Bool) → f n ≡ b → cond b (Some n) (first_from f (suc n) more) ≡ Some k → (first_from f (suc n) more ≡ Some k → IsFirst f (suc n) k) → IsFirst f n k
+  found_by : (n more k : ℕ) (b : Bool) → f n ≡ b → cond b (Some n) (first_from f (suc n) more) ≡ Some k →
+      (first_from f (suc n) more ≡ Some k → IsFirst f (suc n) k) → IsFirst f n k
   found_by n more k true e h rest =
       let same : n ≡ k = same_number n k h in
-      record { from = omega (arith, same); passes = ap f (sym same) ∙ e; none = λ j low high. absurd (omega (arith, low, high, same)) }
+      record {
+        from = omega (arith, same);
+        passes = ap f (sym same) ∙ e;
+        none = λ j low high. absurd (omega (arith, low, high, same));
+      }
   found_by n more k false e h rest = later n k e (rest h)
 
   pub found : (n more k : ℕ) → first_from f n more ≡ Some k → IsFirst f n k
@@ -31,19 +40,26 @@ module _ (f : ℕ → Bool) where
   found n (suc more) k h = found_by n more k (f n) refl h (found (suc n) more k)
 
   least_here : (n more k : ℕ) → n ≡ k → f k ≡ true → first_from f n (suc more) ≡ Some k
-  least_here n more k same e = ap (λ b. cond b (Some n) (first_from f (suc n) more)) (ap f same ∙ e) ∙ ap (λ m. Some m) same
+  least_here n more k same e =
+      ap (λ b. cond b (Some n) (first_from f (suc n) more)) (ap f same ∙ e) ∙ ap (λ m. Some m) same
 
-  least_by : (n more k : ℕ) → IsFirst f n k → (n < k) ⊎ (k ≤ n) → (IsFirst f (suc n) k → first_from f (suc n) more ≡ Some k) → first_from f n (suc more) ≡ Some k
+  least_by : (n more k : ℕ) → IsFirst f n k → (n < k) ⊎ (k ≤ n) →
+      (IsFirst f (suc n) k → first_from f (suc n) more ≡ Some k) → first_from f n (suc more) ≡ Some k
   least_by n more k first (inr under) rest = least_here n more k (omega (arith, under, first.from)) first.passes
   least_by n more k first (inl above) rest =
       ap (λ b. cond b (Some n) (first_from f (suc n) more)) (first.none n (omega arith) above)
-      ∙ rest (record { from = above; passes = first.passes; none = λ j low high. first.none j (omega (arith, low)) high })
+      ∙ rest (record {
+        from = above;
+        passes = first.passes;
+        none = λ j low high. first.none j (omega (arith, low)) high;
+      })
 
   pub least : (n more k : ℕ) → k < n + more → IsFirst f n k → first_from f n more ≡ Some k
   least n zero k h first = absurd (omega (arith, h, first.from))
   least n (suc more) k h first = least_by n more k first (cases_lt n k) (least (suc n) more k (omega (arith, h)))
 
-  none_by : (n more : ℕ) (b : Bool) → f n ≡ b → cond b (Some n) (first_from f (suc n) more) ≡ None → (first_from f (suc n) more ≡ None → (j : ℕ) → suc n ≤ j → j < suc n + more → f j ≡ false) →
+  none_by : (n more : ℕ) (b : Bool) → f n ≡ b → cond b (Some n) (first_from f (suc n) more) ≡ None →
+      (first_from f (suc n) more ≡ None → (j : ℕ) → suc n ≤ j → j < suc n + more → f j ≡ false) →
       (j : ℕ) → n ≤ j → j < n + suc more → f j ≡ false
   none_by n more true e h rest j low high = absurd cc
   none_by n more false e h rest j low high = by (cases_lt n j)

@@ -15,7 +15,8 @@ module _ (M : MissionValue) (L : Log) (past : Past) where
   abbrev now : Cycle
   now = next_cycle M L past
 
-  pub counts-are : now.counts ≡ counts_of M.rules.law M.rules.keep M.rules.decrement now.active now.judged now.counts_before
+  pub counts-are : now.counts
+      ≡ counts_of M.rules.law M.rules.keep M.rules.decrement now.active now.judged now.counts_before
   unfolding cycle_from agreement_of decision_of cycle_start_of
   counts-are = refl
 
@@ -33,19 +34,28 @@ module _ (M : MissionValue) (L : Log) (past : Past) where
 
   -- the count of an active channel after the judgement
   pub stepped : (q : Channel) (errant : Bool) → q < 7 → has now.active q ≡ true → has now.judged q ≡ errant →
-      place_or now.counts q 0 ≡ count_step M.rules.law M.rules.keep M.rules.decrement errant (place_or now.counts_before q 0)
+      place_or now.counts q 0 ≡ count_step M.rules.law M.rules.keep M.rules.decrement errant
+      (place_or now.counts_before q 0)
   stepped q errant low there is =
       ap (λ t. place_or t q 0) counts-are
-      ∙ at-by_channel (λ q. cond (has now.active q) (count_step M.rules.law M.rules.keep M.rules.decrement (has now.judged q) (place_or now.counts_before q 0)) 0) q 0 low
-      ∙ ap (λ b. cond b (count_step M.rules.law M.rules.keep M.rules.decrement (has now.judged q) (place_or now.counts_before q 0)) 0) there
+      ∙ at-by_channel (λ q. cond (has now.active q)
+      (count_step M.rules.law M.rules.keep M.rules.decrement (has now.judged q) (place_or now.counts_before q 0)) 0)
+      q 0 low
+      ∙ ap (λ b. cond b (count_step M.rules.law M.rules.keep M.rules.decrement (has now.judged q)
+      (place_or now.counts_before q 0)) 0) there
       ∙ ap (λ b. count_step M.rules.law M.rules.keep M.rules.decrement b (place_or now.counts_before q 0)) is
 
   -- who is no candidate is not removed
-  pub not_removed : (q : Channel) → (nat_le M.rules.threshold (place_or now.counts q 0) || asks now.active now.fresh now.agreed q) ≡ false → has now.removed q ≡ false
+  pub not_removed : (q : Channel) →
+      (nat_le M.rules.threshold (place_or now.counts q 0) || asks now.active now.fresh now.agreed q) ≡ false →
+      has now.removed q ≡ false
   not_removed q none =
       ap (λ s. has s q) removed-is
-      ∙ clear (has (removed_of M.rules.threshold now.active now.fresh now.agreed now.counts) q) (λ taken. sym (in_take (length now.active - 3) (candidates_of M.rules.threshold now.active now.fresh now.agreed now.counts) q taken)
-      ∙ has-filter (λ q. nat_le M.rules.threshold (place_or now.counts q 0) || asks now.active now.fresh now.agreed q) now.active q
+      ∙ clear (has (removed_of M.rules.threshold now.active now.fresh now.agreed now.counts) q)
+      (λ taken. sym (in_take (length now.active - 3)
+      (candidates_of M.rules.threshold now.active now.fresh now.agreed now.counts) q taken)
+      ∙ has-filter (λ q. nat_le M.rules.threshold (place_or now.counts q 0) || asks now.active now.fresh now.agreed q)
+      now.active q
       ∙ ap (λ b. b && has now.active q) none)
     where
       in_take : (n : ℕ) (xs : List ℕ) (q : ℕ) → has (take n xs) q ≡ true → has xs q ≡ true

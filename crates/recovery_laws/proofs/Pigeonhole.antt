@@ -27,7 +27,8 @@ find_value f v (suc n) =
       ]
     ]
   where
-    by : (i : ℕ) → i ≤ suc n → f i ≡ v → (i ≡ suc n) ⊎ (i ≡ suc n → ⊥) → (f (suc n) ≡ v → ⊥) → ((i : ℕ) → i ≤ n → f i ≡ v → ⊥) → ⊥
+    by : (i : ℕ) → i ≤ suc n → f i ≡ v → (i ≡ suc n) ⊎ (i ≡ suc n → ⊥) → (f (suc n) ≡ v → ⊥) →
+        ((i : ℕ) → i ≤ n → f i ≡ v → ⊥) → ⊥
     by i low is (inl last) other none = other (ap f (sym last) ∙ is)
     by i low is (inr before) other none = none i (omega (arith, low, before)) is
 
@@ -62,7 +63,13 @@ repeats zero f small = absurd (omega (arith, small 0 (omega arith)))
 repeats (suc n) f small =
     let v : ℕ = f (suc n) in
     elim (find_value f v n) [
-      | inl (i, low, is) ↦ record { first = i; second = suc n; earlier = omega (arith, low); within = omega arith; same = is }
+      | inl (i, low, is) ↦ record {
+        first = i;
+        second = suc n;
+        earlier = omega (arith, low);
+        within = omega arith;
+        same = is;
+      }
       | inr none ↦
           let r = repeats n (λ i. closed v (f i))
           (λ i low. closed_small v (f i) n (small i (omega (arith, low))) (small (suc n) (omega arith)) (none i low)) in
@@ -71,6 +78,7 @@ repeats (suc n) f small =
             second = r.second;
             earlier = r.earlier;
             within = omega (arith, r.within);
-            same = closed_same v (f r.first) (f r.second) (none r.first (omega (arith, r.earlier, r.within))) (none r.second r.within) r.same;
+            same = closed_same v (f r.first) (f r.second) (none r.first (omega (arith, r.earlier, r.within)))
+                (none r.second r.within) r.same;
           }
     ]

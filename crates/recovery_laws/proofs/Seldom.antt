@@ -22,12 +22,16 @@ module _ (M : MissionValue) (L : Log) (mission : IsMission M) where
       let past = cycles_before M L m in
       let e = next_cycle M L past in
       let p = peak_found M.rules.law M.rules.keep M.rules.decrement few period peak (ranges M mission).keep is in
-      let low : place_or e.counts q 0 ≤ peak = subst (λ c. c ≤ peak) (sym (counted_now M L mission m q there)) (p.highest (judgements q (e ∷ past)) sparse) in
+      let low : place_or e.counts q 0 ≤ peak =
+      subst (λ c. c ≤ peak) (sym (counted_now M L mission m q there))
+      (p.highest (judgements q (e ∷ past)) sparse) in
       record {
         count = low;
         unremoved = λ under asked. not_removed M L past q
-            (clear_or (nat_le M.rules.threshold (place_or e.counts q 0)) (asks e.active e.fresh e.agreed q) (lt-leb M.rules.threshold (place_or e.counts q 0) (omega (arith, under, low))) asked);
+            (clear_or (nat_le M.rules.threshold (place_or e.counts q 0)) (asks e.active e.fresh e.agreed q)
+            (lt-leb M.rules.threshold (place_or e.counts q 0) (omega (arith, under, low))) asked);
       }
 
-pub run_keeps_seldom : (M : MissionValue) (L : Log) → IsMission M → (n : ℕ) → EachCycle (KeepsSeldomJudged M) (cycles_before M L n)
+pub run_keeps_seldom : (M : MissionValue) (L : Log) → IsMission M → (n : ℕ) →
+    EachCycle (KeepsSeldomJudged M) (cycles_before M L n)
 run_keeps_seldom M L mission n = each_of M L (KeepsSeldomJudged M) n (λ m soon. keeps M L mission m)

@@ -44,7 +44,8 @@ module _ (M : MissionValue) (L : Log) (n : ℕ) (mission : IsMission M) (early :
 
   -- ---- one silent cycle
 
-  module _ (m : ℕ) (soon : m < n) (q : Channel) (there : has (now m).active q ≡ true) (silent : is_up (mode_in (now m) q Round1) ≡ false) where
+  module _ (m : ℕ) (soon : m < n) (q : Channel) (there : has (now m).active q ≡ true)
+      (silent : is_up (mode_in (now m) q Round1) ≡ false) where
     abbrev D : ChannelSet
     D = disturbed_channels (length (cycles_before M L m)) (next_cycle M L (cycles_before M L m)) Switch
 
@@ -60,10 +61,14 @@ module _ (M : MissionValue) (L : Log) (n : ℕ) (mission : IsMission M) (early :
             let u = not_disturbed (length (past m)) (now m) Switch q there e in
             differ (sym (up_in_slot M L (past m) q Round1 Switch low refl u.up) ∙ silent)
 
-    nothing : (j : Channel) → has (now m).active j ≡ true → (q == j) ≡ false → holds (exchange_now M L m Switch) j (q ∷ []) ≡ None
+    nothing : (j : Channel) → has (now m).active j ≡ true → (q == j) ≡ false →
+        holds (exchange_now M L m Switch) j (q ∷ []) ≡ None
     nothing j member other =
-        let sends : is_sender (now m) Round1 q ≡ false = second_false (has (now m).active q) (is_up (mode_in (now m) q Round1)) silent in
-        ap (λ b. cond b (holds (exchange_now M L m Switch) j []) (Rattle.guards_model.specs.OralMessages.word_for M.width [] ((exchange_now M L m Switch).received j 1 q))) other
+        let sends : is_sender (now m) Round1 q ≡ false =
+        second_false (has (now m).active q) (is_up (mode_in (now m) q Round1)) silent in
+        ap (λ b. cond b (holds (exchange_now M L m Switch) j [])
+        (Rattle.guards_model.specs.OralMessages.word_for M.width [] ((exchange_now M L m Switch).received j 1 q)))
+        other
         ∙ ap (Rattle.guards_model.specs.OralMessages.word_for M.width [])
         (at-by_channel (λ i. items_of (received_body M (now m).entries (length (past m)) Round1 i j)) q [] low
         ∙ ap items_of (nothing_of M (past m) (now m) Round1 q j (due m soon) sends))
@@ -74,18 +79,22 @@ module _ (M : MissionValue) (L : Log) (n : ℕ) (mission : IsMission M) (early :
         ap (λ a. place_or a q None) (agreed_from_log M L m Switch (cycle m soon))
         ∙ at-by_channel (λ s. cond (has (now m).active s) (resolved (exchange_now M L m Switch) p s) None) q None low
         ∙ ap (λ b. cond b (resolved (exchange_now M L m Switch) p q) None) there
-        ∙ missing_resolved (exchange_now M L m Switch) (told_now M L m Switch (cycle m soon)) q there bad nothing p (first_active M L m Switch (cycle m soon))
+        ∙ missing_resolved (exchange_now M L m Switch) (told_now M L m Switch (cycle m soon)) q there bad nothing p
+        (first_active M L m Switch (cycle m soon))
 
     judged : has (now m).judged q ≡ true
     judged =
         ap (λ s. has s q) (judged-is M L (past m))
-        ∙ has-filter (λ q. is_none (place_or (now m).agreed q None) || enough_tell (now m).active (now m).agreed (λ w. has w.accuse q)) (now m).active q
-        ∙ ap (λ o. (is_none o || enough_tell (now m).active (now m).agreed (λ w. has w.accuse q)) && has (now m).active q) missing
+        ∙ has-filter (λ q. is_none (place_or (now m).agreed q None)
+        || enough_tell (now m).active (now m).agreed (λ w. has w.accuse q)) (now m).active q
+        ∙ ap (λ o. (is_none o || enough_tell (now m).active (now m).agreed (λ w. has w.accuse q))
+        && has (now m).active q) missing
         ∙ there
 
   -- ---- silent cycles in a row
 
-  silent_parts : (m : ℕ) (q : Channel) → is_silent (now m) q ≡ true → (has (now m).active q ≡ true) × (is_up (mode_in (now m) q Round1) ≡ false)
+  silent_parts : (m : ℕ) (q : Channel) → is_silent (now m) q ≡ true →
+      (has (now m).active q ≡ true) × (is_up (mode_in (now m) q Round1) ≡ false)
   silent_parts m q h =
       let parts = both (has (now m).active q) (not (is_up (mode_in (now m) q Round1))) h in
       (parts.0, not_true (is_up (mode_in (now m) q Round1)) parts.1)
@@ -107,8 +116,10 @@ module _ (M : MissionValue) (L : Log) (n : ℕ) (mission : IsMission M) (early :
   pub removes_silent : (m : ℕ) → m < n → RemovesSilent M (past m) (now m)
   removes_silent m soon q silent enough = removes M L mission n is_silent judged_silent m soon q silent enough
 
-pub run_finds : (M : MissionValue) (L : Log) (n : ℕ) → IsMission M → n ≤ M.cycles → HasRun M L n → EachCycle (FindsSilent M) (cycles_before M L n)
+pub run_finds : (M : MissionValue) (L : Log) (n : ℕ) → IsMission M → n ≤ M.cycles → HasRun M L n →
+    EachCycle (FindsSilent M) (cycles_before M L n)
 run_finds M L n mission early run = each_of M L (FindsSilent M) n (finds M L n mission early run)
 
-pub run_removes : (M : MissionValue) (L : Log) (n : ℕ) → IsMission M → n ≤ M.cycles → HasRun M L n → EachCycle (RemovesSilent M) (cycles_before M L n)
+pub run_removes : (M : MissionValue) (L : Log) (n : ℕ) → IsMission M → n ≤ M.cycles → HasRun M L n →
+    EachCycle (RemovesSilent M) (cycles_before M L n)
 run_removes M L n mission early run = each_of M L (RemovesSilent M) n (removes_silent M L n mission early run)

@@ -19,9 +19,11 @@ use Rattle.recovery_laws.proofs.Counted.{after-is}
 digits_same : (size a b x y : ℕ) → x < size → y < size → a * size + x ≡ b * size + y → (a ≡ b) × (x ≡ y)
 digits_same size a b x y low_x low_y same =
     elim (cases_lt a b) [
-      | inl under ↦ absurd (let more : suc a * size ≤ b * size = mul-le-mul_right size under in omega (arith, same, more, low_x, next a size))
+      | inl under ↦ absurd (let more : suc a * size ≤ b * size = mul-le-mul_right size under in
+          omega (arith, same, more, low_x, next a size))
       | inr over ↦ elim (cases_lt b a) [
-        | inl under ↦ absurd (let more : suc b * size ≤ a * size = mul-le-mul_right size under in omega (arith, same, more, low_y, next b size))
+        | inl under ↦ absurd (let more : suc b * size ≤ a * size = mul-le-mul_right size under in
+            omega (arith, same, more, low_y, next b size))
         | inr back ↦ let first : a ≡ b = omega (arith, over, back) in (first, rest first same)
       ]
     ]
@@ -80,18 +82,22 @@ code_same p q (suc n) same b low =
 kept_same : (p q : ℕ → Bool) (n : ℕ) → code p n ≡ code q n → filter p (numbers_below n) ≡ filter q (numbers_below n)
 kept_same p q n same =
     filter_alike p q (numbers_below n)
-    (λ b there. code_same p q n same b (leb-true (suc b) n (member_passes (λ y. nat_lt y n) (numbers_below n) b (below_under n n (omega arith)) there)))
+    (λ b there. code_same p q n same b
+    (leb-true (suc b) n (member_passes (λ y. nat_lt y n) (numbers_below n) b (below_under n n (omega arith))
+    there)))
 
 -- ---- the state after n cycles
 
-cursor_small : (blocks : ℕ) → 0 < blocks → (before : ℕ) → before < blocks → (o : Option ℕ) → cursor_after blocks before o < blocks
+cursor_small : (blocks : ℕ) → 0 < blocks → (before : ℕ) → before < blocks → (o : Option ℕ) →
+    cursor_after blocks before o < blocks
 cursor_small blocks some before low None = low
 cursor_small blocks some before low (Some b) = mod-lt (b + 1) some
 
 sweep_small : (blocks : ℕ) → 0 < blocks → (cycles : List TransferCycle) → sweep_cursor blocks cycles < blocks
 sweep_small blocks some [] = some
 sweep_small blocks some (e ∷ earlier) =
-    cursor_small blocks some (sweep_cursor blocks earlier) (sweep_small blocks some earlier) (Rattle.std.specs.List.last_or None e.planned)
+    cursor_small blocks some (sweep_cursor blocks earlier) (sweep_small blocks some earlier)
+    (Rattle.std.specs.List.last_or None e.planned)
 
 module _ (M : MissionValue) (some_rows : 0 < length M.table) (some_blocks : 0 < M.rules.blocks) (s : ℕ) where
   abbrev B : ℕ
@@ -104,29 +110,46 @@ module _ (M : MissionValue) (some_rows : 0 < length M.table) (some_blocks : 0 < 
   marked n = code (remains (transfer_cycles M s n)) M.rules.blocks
 
   abbrev placed : ℕ → ℕ
-  placed n = sweep_cursor M.rules.blocks (transfer_cycles M s n) * 2 ^ M.rules.blocks + code (remains (transfer_cycles M s n)) M.rules.blocks
+  placed n = sweep_cursor M.rules.blocks (transfer_cycles M s n) * 2 ^ M.rules.blocks + code
+      (remains (transfer_cycles M s n)) M.rules.blocks
 
   pub state : ℕ → ℕ
   state n = row_of M (s + n) * (M.rules.blocks * 2 ^ M.rules.blocks) + placed n
 
   placed_small : (n : ℕ) → placed n < B * 2 ^ B
   placed_small n =
-      digits_small (2 ^ B) B (sweep_cursor B (cycles n)) (marked n) (sweep_small B some_blocks (cycles n)) (code_small (remains (cycles n)) B)
+      digits_small (2 ^ B) B (sweep_cursor B (cycles n)) (marked n) (sweep_small B some_blocks (cycles n))
+      (code_small (remains (cycles n)) B)
 
   pub state_small : (n : ℕ) → state n < most_states M
   unfolding state
   state_small n =
-      digits_small (B * 2 ^ B) (length M.table) (row_of M (s + n)) (placed n) (mod-lt (s + n) some_rows) (placed_small n)
+      digits_small (B * 2 ^ B) (length M.table) (row_of M (s + n)) (placed n) (mod-lt (s + n) some_rows)
+      (placed_small n)
 
   -- the state tells the row and the tags
-  pub state_tells : (n m : ℕ) → state n ≡ state m → (row_of M (s + n) ≡ row_of M (s + m)) × (tags_in_transfer M s n ≡ tags_in_transfer M s m)
+  pub state_tells : (n m : ℕ) → state n ≡ state m →
+      (row_of M (s + n) ≡ row_of M (s + m)) × (tags_in_transfer M s n ≡ tags_in_transfer M s m)
   unfolding state tags_of
   state_tells n m same =
-      let rows = digits_same (B * 2 ^ B) (row_of M (s + n)) (row_of M (s + m)) (placed n) (placed m) (placed_small n) (placed_small m) same in
-      let parts = digits_same (2 ^ B) (sweep_cursor B (cycles n)) (sweep_cursor B (cycles m)) (marked n) (marked m) (code_small (remains (cycles n)) B) (code_small (remains (cycles m)) B) rows.1 in (
+      let rows = digits_same (B * 2 ^ B) (row_of M (s + n)) (row_of M (s + m)) (placed n) (placed m) (placed_small n)
+      (placed_small m) same in
+      let parts = digits_same (2 ^ B) (sweep_cursor B (cycles n)) (sweep_cursor B (cycles m)) (marked n) (marked m)
+      (code_small (remains (cycles n)) B) (code_small (remains (cycles m)) B) rows.1 in (
         rows.0,
         after-is M s n
-            ∙ ap (λ cursor. record { blocks = B; remaining = filter (remains (cycles n)) (numbers_below B); cursor = cursor; written = Rattle.guards_model.specs.Tags.blocks_in B [] }) parts.0
-            ∙ ap (λ kept. record { blocks = B; remaining = kept; cursor = sweep_cursor B (cycles m); written = Rattle.guards_model.specs.Tags.blocks_in B [] }) (kept_same (remains (cycles n)) (remains (cycles m)) B parts.1)
+            ∙ ap (λ cursor. record {
+              blocks = B;
+              remaining = filter (remains (cycles n)) (numbers_below B);
+              cursor = cursor;
+              written = Rattle.guards_model.specs.Tags.blocks_in B [];
+            }) parts.0
+            ∙ ap (λ kept. record {
+              blocks = B;
+              remaining = kept;
+              cursor = sweep_cursor B (cycles m);
+              written = Rattle.guards_model.specs.Tags.blocks_in B [];
+            })
+            (kept_same (remains (cycles n)) (remains (cycles m)) B parts.1)
             ∙ sym (after-is M s m),
       )

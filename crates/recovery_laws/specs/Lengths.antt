@@ -103,4 +103,5 @@ IsKeptTo M L q s c = (d : ℕ) → s < d → d ≤ c → has (dropped_in d (cycl
 -- of its length.
 abbrev pub RunsForLength : MissionValue → Log → Channel → ℕ → ℕ → Type 0
 RunsForLength M L q s c =
-    IsTrue (is_transfer_to q s (cycle_at M L c).transfer) ↔ ((k : ℕ) → transfer_length M (row_of M s) ≡ Some k → c < s + k)
+    IsTrue (is_transfer_to q s (cycle_at M L c).transfer) ↔
+    ((k : ℕ) → transfer_length M (row_of M s) ≡ Some k → c < s + k)

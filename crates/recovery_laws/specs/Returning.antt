@@ -18,15 +18,15 @@ IsHeardByAll M past e q =
 abbrev pub IsAlone : Cycle → Channel → Type 0
 IsAlone e q = (r : Channel) → (r == q) ≡ false → (has e.removed r ≡ false) × (has (targets_of e.transfer) r ≡ false)
 
--- From one cycle to another a channel is joining in every slot, its requests arrive in all of them but the last, and it is
--- alone in its return.
+-- From one cycle to another a channel is joining in every slot, its requests arrive in all of them but the last, and it
+-- is alone in its return.
 pub record ComesBack (M : MissionValue) (L : Log) (q : Channel) (from to : ℕ) : Type 0 where
   pub joins : (d : ℕ) → from ≤ d → d ≤ to → IsTrue (joins_from Request (cycle_at M L d) q)
   pub heard : (d : ℕ) → from ≤ d → d < to → IsHeardByAll M (cycles_before M L d) (cycle_at M L d) q
   pub alone : (d : ℕ) → from ≤ d → d ≤ to → IsAlone (cycle_at M L d) q
 
--- A channel that was restarted in cycle c is removed in the next one, its transfer starts in the one after that, and it is
--- declared joined in the k-th cycle of the transfer, and whole.
+-- A channel that was restarted in cycle c is removed in the next one, its transfer starts in the one after that, and it
+-- is declared joined in the k-th cycle of the transfer, and whole.
 pub record IsReturned (M : MissionValue) (L : Log) (q : Channel) (c k : ℕ) : Type 0 where
   pub removed : IsTrue (has (cycle_at M L (suc c)).removed q)
   pub starts : IsTrue (is_transfer_to q (suc (suc c)) (cycle_at M L (suc (suc c))).transfer)

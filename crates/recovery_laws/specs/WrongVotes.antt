@@ -17,7 +17,8 @@ use Rattle.guards_runs.specs.Disturbed.{is_charge, disturbed_channels}
 abbrev pub VotesWrong : MissionValue → Past → Cycle → Channel → Type 0
 VotesWrong M past e q =
     (j : Channel) → IsTrue (has e.active j) → (q == j) ≡ false →
-    IsTrue (is_wrong (map (λ w. Some w) (output_words M e.ideal_context)) (ballot_of (received_body M e.entries (this_cycle past) Vote q j)))
+    IsTrue (is_wrong (map (λ w. Some w) (output_words M e.ideal_context))
+    (ballot_of (received_body M e.entries (this_cycle past) Vote q j)))
 
 -- The vote of a channel that is up in its slot, of whose pieces up to then none was lost or forged, and whose output
 -- words differ from those of the ideal context, as where damage has reached them.

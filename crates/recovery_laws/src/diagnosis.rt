@@ -29,8 +29,10 @@ pub fn undisturbed_are_left_alone()
 /// Whatever the log holds, the count of an active channel that is judged in each of some cycles grows by 1 in each; it
 /// is a candidate at the latest where that reaches the threshold, and is removed then, unless just three would stay.
 pub fn judged_are_removed_in_time()
-    ensures raised { (M : MissionValue) (L : Log) → IsMission M → (n : ℕ) → EachCycle (RaisesJudged M) (cycles_before M L n) }
-    ensures removed { (M : MissionValue) (L : Log) → IsMission M → (n : ℕ) → EachCycle (RemovesJudged M) (cycles_before M L n) }
+    ensures raised { (M : MissionValue) (L : Log) → IsMission M → (n : ℕ) →
+        EachCycle (RaisesJudged M) (cycles_before M L n) }
+    ensures removed { (M : MissionValue) (L : Log) → IsMission M → (n : ℕ) →
+        EachCycle (RemovesJudged M) (cycles_before M L n) }
 {}
 
 /// In the cycles of every run an active channel that tells no word is judged, and its count grows by 1 in each of them;
@@ -44,7 +46,8 @@ pub fn silent_are_removed_in_time()
 
 /// Whatever the log holds, the count of an active channel is that of its judgements since it last became active.
 pub fn counts_are_of_judgements()
-    ensures { (M : MissionValue) (L : Log) → IsMission M → (n : ℕ) → EachCycle (CountsJudgements M) (cycles_before M L n) }
+    ensures { (M : MissionValue) (L : Log) → IsMission M → (n : ℕ) →
+        EachCycle (CountsJudgements M) (cycles_before M L n) }
 {}
 
 /// The peak, where one is found, is the highest count of a channel that is judged at most once in so many cycles in a
@@ -65,7 +68,8 @@ pub fn peaks_are_decided()
 /// every mission there is a least such period, or there is none: from it on each stays, and below it each reaches the
 /// threshold. There is one just where the threshold takes more than one judgement and counts decay at all.
 pub fn least_periods_are_exact()
-    ensures stays { (M : MissionValue) (period : ℕ) → IsMission M → IsTrue (stays_below M period) ↔ StaysBelow M period }
+    ensures stays { (M : MissionValue) (period : ℕ) → IsMission M →
+        IsTrue (stays_below M period) ↔ StaysBelow M period }
     ensures reaches { (M : MissionValue) (period : ℕ) → IsMission M →
         (stays_below M period ≡ false) ↔ ReachesThreshold M period }
     ensures from_least { (M : MissionValue) (least period : ℕ) → IsMission M → least_period M ≡ Some least →
@@ -88,7 +92,8 @@ pub fn least_periods_are_kept()
 /// Whatever the log holds, a channel that is judged at most once in so many cycles in a row keeps its count at
 /// the peak or below, and is not removed for it where the peak is below the threshold.
 pub fn seldom_judged_stay()
-    ensures { (M : MissionValue) (L : Log) → IsMission M → (n : ℕ) → EachCycle (KeepsSeldomJudged M) (cycles_before M L n) }
+    ensures { (M : MissionValue) (L : Log) → IsMission M → (n : ℕ) →
+        EachCycle (KeepsSeldomJudged M) (cycles_before M L n) }
 {}
 
 /// In the cycles of every run a disturbed cycle adds 2 at most to the count of its channel, and a channel is removed
@@ -106,10 +111,13 @@ pub fn removals_have_causes()
 /// three would stay.
 pub fn crashed_go_in_time()
     ensures stays_silent { (M : MissionValue) (L : Log) (c : ℕ) (q : Channel) → IsMission M →
-        IsActiveFor M L q c 1 → is_up (mode_in (cycle_at M L c) q Switch) ≡ false → IsTrue (is_silent (cycle_at M L (c + 1)) q) }
-    ensures goes { (M : MissionValue) (L : Log) (n c more : ℕ) (q : Channel) → IsMission M → n ≤ M.cycles → HasRun M L n →
+        IsActiveFor M L q c 1 → is_up (mode_in (cycle_at M L c) q Switch) ≡ false →
+        IsTrue (is_silent (cycle_at M L (c + 1)) q) }
+    ensures goes { (M : MissionValue) (L : Log) (n c more : ℕ) (q : Channel) → IsMission M → n ≤ M.cycles →
+        HasRun M L n →
         c + more < n → IsActiveFor M L q c more → is_up (mode_in (cycle_at M L c) q Switch) ≡ false →
-        M.rules.threshold ≤ 65536 * more → IsRemovedInTime M (cycles_before M L (c + more)) (cycle_at M L (c + more)) q }
+        M.rules.threshold ≤ 65536 * more →
+        IsRemovedInTime M (cycles_before M L (c + more)) (cycle_at M L (c + more)) q }
 {}
 
 /// In a run, where damage has reached the output words of a channel that is up, and nothing that it sent was lost or

@@ -4,8 +4,8 @@ use guards_base::Bytes;
 use std::alloc::{AllocError, Global};
 use std::test::Fail;
 
-// How many parts a log keeps, how many are pushed, each a digit, and those that are pushed out and those that are then kept, in
-// order.
+// How many parts a log keeps, how many are pushed, each a digit, and those that are pushed out and those that are then
+// kept, in order.
 const LOGS: &str = "1 0 |
 1 1 |0
 1 3 01|2

@@ -4,8 +4,8 @@ use report_text::{check_head, check_line, head, summary, write_cycle, write_end,
 use std::alloc::{AllocError, Global};
 use std::test::Fail;
 
-// Appends a cycle in which nothing goes wrong. It alone owns the cycle, since each place where one may end costs the proof
-// seconds.
+// Appends a cycle in which nothing goes wrong. It alone owns the cycle, since each place where one may end costs the
+// proof seconds.
 fn push_quiet(
     alloc: Global,
     text: &mut Text,

@@ -17,13 +17,16 @@ use Rattle.report_story.specs.Answers.{IsPlace, StepsStory, OnlyStops}
 
 -- a line that the text spells was taken or not
 pub stepped : (p : StoryPlace) (text : TextValue) (line : ReportLine) (fits : Bool) (q : StoryPlace) →
-    line_read text ≡ Some line → fits ≡ suits_story p line → (fits ≡ true → q ≡ story_after p line) → StepsStory p text fits q
+    line_read text ≡ Some line → fits ≡ suits_story p line → (fits ≡ true → q ≡ story_after p line) →
+    StepsStory p text fits q
 stepped p text line true q is fit told =
-    ap (if_suits p) is ∙ ap (λ b. cond b (Some (story_after p line)) None) (sym fit) ∙ ap (λ x. Some x) (sym (told refl))
+    ap (if_suits p) is ∙ ap (λ b. cond b (Some (story_after p line)) None) (sym fit)
+    ∙ ap (λ x. Some x) (sym (told refl))
 stepped p text line false q is fit told =
     ap (if_suits p) is ∙ ap (λ b. cond b (Some (story_after p line)) None) (sym fit)
 
-none_of : (p : StoryPlace) (o : Option ReportLine) → ((line : ReportLine) → o ≡ Some line → suits_story p line ≡ false) →
+none_of : (p : StoryPlace) (o : Option ReportLine) →
+    ((line : ReportLine) → o ≡ Some line → suits_story p line ≡ false) →
     if_suits p o ≡ None
 none_of p None h = refl
 none_of p (Some line) h = ap (λ b. cond b (Some (story_after p line)) None) (h line refl)
@@ -40,18 +43,21 @@ unfolding story_of
 begins text = refl
 
 pub goes : (n : ℕ) (p q : StoryPlace) (text : TextValue) (texts : List TextValue) (all : Result StoryPlace ℕ)
-    → story_told n (Some p) (text ∷ texts) ≡ all → if_suits p (line_read text) ≡ Some q → story_told (suc n) (Some q) texts ≡ all
+    → story_told n (Some p) (text ∷ texts) ≡ all → if_suits p (line_read text) ≡ Some q →
+    story_told (suc n) (Some q) texts ≡ all
 goes n p q text texts all h step = sym (ap (λ o. story_told (suc n) o texts) step) ∙ h
 
 pub stops : (n : ℕ) (p : StoryPlace) (text : TextValue) (texts : List TextValue) (all : Result StoryPlace ℕ)
     → story_told n (Some p) (text ∷ texts) ≡ all → if_suits p (line_read text) ≡ None → all ≡ Err (suc n)
 stops n p text texts all h step = sym h ∙ ap (λ o. story_told (suc n) o texts) step
 
-pub at_end : (n : ℕ) (p : StoryPlace) (all : Result StoryPlace ℕ) → story_told n (Some p) [] ≡ all → is_story_head p.stage ≡ false →
+pub at_end : (n : ℕ) (p : StoryPlace) (all : Result StoryPlace ℕ) → story_told n (Some p) [] ≡ all →
+    is_story_head p.stage ≡ false →
     all ≡ Ok p
 at_end n p all h some = sym h ∙ ap (λ b. cond b (Err (suc n)) (Ok p)) some
 
-pub no_first : (n : ℕ) (p : StoryPlace) (all : Result StoryPlace ℕ) → story_told n (Some p) [] ≡ all → is_story_head p.stage ≡ true →
+pub no_first : (n : ℕ) (p : StoryPlace) (all : Result StoryPlace ℕ) → story_told n (Some p) [] ≡ all →
+    is_story_head p.stage ≡ true →
     all ≡ Err (suc n)
 no_first n p all h none = sym h ∙ ap (λ b. cond b (Err (suc n)) (Ok p)) none
 
@@ -99,7 +105,8 @@ used p l (Some s) place is h =
     }
 
 -- it holds of it at another stage that is neither before the first line nor in a cycle
-moved : (p : StoryPlace) (s : Stage) → IsPlace p → is_story_head s ≡ false → is_story_amid s ≡ false → IsPlace (record p { stage = s })
+moved : (p : StoryPlace) (s : Stage) → IsPlace p → is_story_head s ≡ false → is_story_amid s ≡ false →
+    IsPlace (record p { stage = s })
 moved p s place no_head no_cycle = record {
   least = place.least;
   most = place.most;
@@ -111,9 +118,11 @@ moved p s place no_head no_cycle = record {
 }
 
 -- it holds of the next one too
-pub leads_on : (p : StoryPlace) (line : ReportLine) → IsPlace p → suits_story p line ≡ true → IsPlace (story_after p line)
+pub leads_on : (p : StoryPlace) (line : ReportLine) → IsPlace p → suits_story p line ≡ true →
+    IsPlace (story_after p line)
 leads_on p (head_told n m) place h =
-    let parts = both (within 3 7 n) (within 1 2000 m) (both (is_story_head p.stage) (within 3 7 n && within 1 2000 m) h).1 in
+    let parts = both (within 3 7 n) (within 1 2000 m)
+    (both (is_story_head p.stage) (within 3 7 n && within 1 2000 m) h).1 in
     let few = in_range 3 7 n parts.0 in
     let many = in_range 1 2000 m parts.1 in
     let none : length p.told ≡ 0 = place.head (both (is_story_head p.stage) (within 3 7 n && within 1 2000 m) h).0 in
@@ -198,7 +207,8 @@ leads_on p (stop_told s) place h = record {
 pub next_place : (p q : StoryPlace) (text : TextValue) → IsPlace p → if_suits p (line_read text) ≡ Some q → IsPlace q
 next_place p q text place step = by_line (line_read text) step
   where
-    by_test : (line : ReportLine) (b : Bool) → suits_story p line ≡ b → cond b (Some (story_after p line)) None ≡ Some q → IsPlace q
+    by_test : (line : ReportLine) (b : Bool) → suits_story p line ≡ b →
+        cond b (Some (story_after p line)) None ≡ Some q → IsPlace q
     by_test line true fit e = subst IsPlace (place_is (story_after p line) e) (leads_on p line place fit)
       where
         place_is : (x : StoryPlace) → Some x ≡ Some q → x ≡ q

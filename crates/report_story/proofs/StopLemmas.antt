@@ -54,7 +54,8 @@ stop_read text s form e = ap line_read (sym e) ∙ line_back (stop_told (story_s
 pub no_stop : (text body rest : TextValue) (got : StopLine) → text ≡ body ++ line_end →
     ((first : TextValue) (pieces : List TextValue) → lacks 32 first ≡ true → body ≡ join_with_byte 32 (first ∷ pieces) →
     rest ≡ join_with_byte 32 pieces) →
-    ((s : StopValue) → is_form (stop_told s) ≡ true → rest ≡ join_with_byte 32 (fields (stop_told s)) → story_stop got ≡ s) →
+    ((s : StopValue) → is_form (stop_told s) ≡ true → rest ≡ join_with_byte 32 (fields (stop_told s)) →
+    story_stop got ≡ s) →
     (line_spelling (stop_told (story_stop got)) ≡ text → ⊥) → (s : StopValue) → line_read text ≡ Some (stop_told s) → ⊥
 no_stop text body rest got e cut read differs s h =
     let parts = body_is text body (stop_told s) e h in

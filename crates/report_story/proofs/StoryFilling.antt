@@ -32,7 +32,8 @@ filled_up d n k xs front e h =
 -- a line's sizes are those that it was read with
 pub line_fit : (p : StoryPlace) (s : Sizes) (l : LineValue) → length l.inputs ≡ s.width → length l.votes ≡ s.outputs →
     length l.counts ≡ s.channels →
-    ((sizes_fit p.sizes s.width s.outputs && s.channels == p.channels) && line_comes_next p.last l.channel) ≡ line_fits p l
+    ((sizes_fit p.sizes s.width s.outputs && s.channels == p.channels) && line_comes_next p.last l.channel)
+    ≡ line_fits p l
 line_fit p s l a b c =
     sym (λ i. (sizes_fit p.sizes (a i) (b i) && (c i == p.channels)) && line_comes_next p.last l.channel)
 
@@ -40,4 +41,7 @@ pub line_told : (p : StoryPlace) (s : Sizes) (l : LineValue) → length l.inputs
     s.channels ≡ p.channels →
     record p { sizes = Some s; last = with_story_line p.last l } ≡ story_after p (channel_told l)
 line_told p s l a b c =
-    sym (λ i. record p { sizes = Some (record { channels = sym c i; width = a i; outputs = b i }); last = with_story_line p.last l })
+    sym (λ i. record p {
+      sizes = Some (record { channels = sym c i; width = a i; outputs = b i });
+      last = with_story_line p.last l;
+    })

@@ -19,7 +19,8 @@ IsOf text read = (line_read text ≡ Some (line_value read.sizes read.line)) × 
 abbrev pub ReadsAny : ℕ → TextValue → Option SizedLine → Type 0
 ReadsAny channels text (Some read) = IsOf text read × (read.sizes.channels ≡ channels)
 ReadsAny channels text None =
-    (line : ReportLine) (n : ℕ) → line_read text ≡ Some line → n < 32 → has_sizes (story_sizes_at channels n) line ≡ false
+    (line : ReportLine) (n : ℕ) → line_read text ≡ Some line → n < 32 →
+    has_sizes (story_sizes_at channels n) line ≡ false
 
 -- a line of the known sizes, or of any
 abbrev pub ReadsSized : ℕ → Option Sizes → TextValue → Option SizedLine → Type 0

@@ -45,7 +45,15 @@ impl Model for Reader {
 
     ghost Value = { StoryPlace };
 
-    ghost view = { λ r. record { stage = r.stage; channels = r.channels; cycles = r.cycles; sizes = r.sizes; told = r.told.items; last = r.last; ending = r.ending } };
+    ghost view = { λ r. record {
+      stage = r.stage;
+      channels = r.channels;
+      cycles = r.cycles;
+      sizes = r.sizes;
+      told = r.told.items;
+      last = r.last;
+      ending = r.ending;
+    } };
 }
 
 /// A cycle of which nothing is told but its first line, and what the cycle before told of its transfer and its joins.
@@ -291,7 +299,8 @@ impl Reader {
 
     fn take_cycle(&mut self, cycle: u32, active: ChanSet, transfer: Option<(ChanSet, u32)>) -> bool
         ensures fits { result ≡ suits_story self.old (cycle_told cycle active (transfer_of_pair transfer)) }
-        ensures told { result ≡ true → self.new ≡ story_after self.old (cycle_told cycle active (transfer_of_pair transfer)) }
+        ensures told { result ≡ true →
+            self.new ≡ story_after self.old (cycle_told cycle active (transfer_of_pair transfer)) }
     {
         let fits = is_between(self.stage)
             && cycle as usize == self.told.len()
@@ -324,7 +333,8 @@ impl Reader {
 
     fn fits_channel(&self, line: &ChannelLine, sizes: Sizes) -> bool
         requires { IsInUse sizes }
-        ensures value { result ≡ suits_story self.now (channel_told (shown_line sizes.channels sizes.width sizes.outputs line.now)) }
+        ensures value { result ≡ suits_story self.now
+            (channel_told (shown_line sizes.channels sizes.width sizes.outputs line.now)) }
         ensures channels { result ≡ true → sizes.channels ≡ self.now.channels }
     {
         is_amid(self.stage) && self.fits_line(line, sizes)
@@ -332,8 +342,11 @@ impl Reader {
 
     fn take_channel(&mut self, line: &ChannelLine, sizes: Sizes) -> bool
         requires { IsInUse sizes }
-        ensures fits { result ≡ suits_story self.old (channel_told (shown_line sizes.channels sizes.width sizes.outputs line.now)) }
-        ensures told { result ≡ true → self.new ≡ story_after self.old (channel_told (shown_line sizes.channels sizes.width sizes.outputs line.now)) }
+        ensures fits { result ≡ suits_story self.old
+            (channel_told (shown_line sizes.channels sizes.width sizes.outputs line.now)) }
+        ensures told { result ≡ true →
+            self.new ≡ story_after self.old
+            (channel_told (shown_line sizes.channels sizes.width sizes.outputs line.now)) }
     {
         prove_lengths(line, sizes);
         let fits = self.fits_channel(line, sizes);
@@ -351,7 +364,8 @@ impl Reader {
         remaining: Option<u16>,
     ) -> Result<bool, AllocError>
         ensures fits { IfOk result (λ fits. fits ≡ suits_story self.old (end_told removed joined remaining)) }
-        ensures told { IfOk result (λ fits. fits ≡ true → self.new ≡ story_after self.old (end_told removed joined remaining)) }
+        ensures told { IfOk result
+            (λ fits. fits ≡ true → self.new ≡ story_after self.old (end_told removed joined remaining)) }
     {
         let fits = is_amid(self.stage) && is_block_count(remaining);
         if fits {
@@ -397,8 +411,11 @@ impl Reader {
         set: ChanSet,
         active: ChanSet,
     ) -> bool
-        ensures fits { result ≡ suits_story self.old (stop_told (record { cycle = cycle; slot = slot; set = set; active = active })) }
-        ensures told { result ≡ true → self.new ≡ story_after self.old (stop_told (record { cycle = cycle; slot = slot; set = set; active = active })) }
+        ensures fits { result ≡ suits_story self.old
+            (stop_told (record { cycle = cycle; slot = slot; set = set; active = active })) }
+        ensures told { result ≡ true →
+            self.new ≡ story_after self.old
+            (stop_told (record { cycle = cycle; slot = slot; set = set; active = active })) }
     {
         let fits = is_between(self.stage)
             && cycle as usize == self.told.len()

@@ -50,7 +50,8 @@ fn head_text(
     writes: u16,
     join: Option<u32>,
 ) -> Result<String, AllocError>
-    ensures { IfOk result (λ text. string_bytes text ≡ part_text (check_head_part channels cycles blocks rounds writes join)) }
+    ensures { IfOk result (λ text. string_bytes text
+        ≡ part_text (check_head_part channels cycles blocks rounds writes join)) }
 {
     let mut text = sizes_line(alloc, channels, cycles, blocks)?;
     text.push_str(&rounds_line(alloc, rounds)?)?;
@@ -71,7 +72,8 @@ pub fn check_head(
     writes: u16,
     join: Option<u32>,
 ) -> Result<(), AllocError>
-    ensures written { OnOk result (text.new ≡ text.old ++ part_text (check_head_part channels cycles blocks rounds writes join)) }
+    ensures written { OnOk result
+        (text.new ≡ text.old ++ part_text (check_head_part channels cycles blocks rounds writes join)) }
     ensures refused { OnErr result (text.new ≡ text.old) }
 {
     text.push_str(&head_text(alloc, channels, cycles, blocks, rounds, writes, join)?)
@@ -163,7 +165,8 @@ pub fn summary(
     outputs: u8,
 ) -> Result<(), AllocError>
     requires { outputs ≤ 8 }
-    ensures written { OnOk result (text.new ≡ text.old ++ part_text (summary_part n joins removals frames (take outputs last.now))) }
+    ensures written { OnOk result
+        (text.new ≡ text.old ++ part_text (summary_part n joins removals frames (take outputs last.now))) }
     ensures refused { OnErr result (text.new ≡ text.old) }
 {
     let votes = &last[..usize::from(outputs)];

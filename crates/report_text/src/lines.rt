@@ -120,7 +120,8 @@ pub fn channel_lines(
     requires channels { channels ≤ 7 }
     requires width { width ≤ 4 }
     requires outputs { outputs ≤ 8 }
-    ensures { IfOk result (λ text. string_bytes text ≡ flat_map (λ l. channel_line (shown_line channels width outputs l)) lines.now) }
+    ensures { IfOk result (λ text. string_bytes text
+        ≡ flat_map (λ l. channel_line (shown_line channels width outputs l)) lines.now) }
 {
     let mut text = String::new(alloc);
     for line in lines {

@@ -57,7 +57,8 @@ impl Spelled for Option<i64> {
 
 // Appends the piece at this place of a list, each but the first after a comma.
 fn push_piece(text: &mut String, place: usize, piece: &str) -> Result<(), AllocError>
-    ensures { OnOk result (string_bytes text.new ≡ string_bytes text.old ++ (if place == 0 then piece.now else 44 ∷ piece.now)) }
+    ensures { OnOk result (string_bytes text.new
+        ≡ string_bytes text.old ++ (if place == 0 then piece.now else 44 ∷ piece.now)) }
 {
     if place > 0 {
         text.push(',')?;
@@ -87,7 +88,8 @@ fn has_bit(mask: u8, channel: u8) -> bool
 // Appends the channel where its bit is set.
 fn push_member(list: &mut Vec<u8>, mask: u8, channel: u8) -> Result<(), AllocError>
     requires { channel < 7 }
-    ensures { OnOk result (list.new.items ≡ list.old.items ++ (if (mask / 2 ^ channel) % 2 == 1 then channel ∷ [] else [])) }
+    ensures { OnOk result (list.new.items
+        ≡ list.old.items ++ (if (mask / 2 ^ channel) % 2 == 1 then channel ∷ [] else [])) }
 {
     if has_bit(mask, channel) {
         list.push(channel)?;

@@ -30,7 +30,8 @@ fn push_traces(
     traces: &[TraceLine],
     trace: bool,
 ) -> Result<(), AllocError>
-    ensures { OnOk result (string_bytes text.new ≡ string_bytes text.old ++ (if trace then flat_map trace_line traces.now else [])) }
+    ensures { OnOk result (string_bytes text.new
+        ≡ string_bytes text.old ++ (if trace then flat_map trace_line traces.now else [])) }
 {
     if trace {
         text.push_str(&trace_lines(alloc, traces)?)?;
@@ -50,7 +51,8 @@ fn cycle_text(
     requires channels { channels ≤ 7 }
     requires width { width ≤ 4 }
     requires outputs { outputs ≤ 8 }
-    ensures { IfOk result (λ text. string_bytes text ≡ part_text (cycle_part trace (shown channels width outputs part.now))) }
+    ensures { IfOk result (λ text. string_bytes text
+        ≡ part_text (cycle_part trace (shown channels width outputs part.now))) }
 {
     let mut text = cycle_line(alloc, part)?;
     text.push_str(&channel_lines(alloc, part.lines.as_slice(), channels, width, outputs)?)?;
@@ -72,7 +74,8 @@ pub fn write_cycle(
     requires channels { channels ≤ 7 }
     requires width { width ≤ 4 }
     requires outputs { outputs ≤ 8 }
-    ensures written { OnOk result (text.new ≡ text.old ++ part_text (cycle_part trace (shown channels width outputs part.now))) }
+    ensures written { OnOk result
+        (text.new ≡ text.old ++ part_text (cycle_part trace (shown channels width outputs part.now))) }
     ensures refused { OnErr result (text.new ≡ text.old) }
 {
     text.push_str(&cycle_text(alloc, part, channels, width, outputs, trace)?)
@@ -132,7 +135,8 @@ fn stop_line(
     set: ChanSet,
     active: ChanSet,
 ) -> Result<String, AllocError>
-    ensures { IfOk result (λ text. string_bytes text ≡ stop_line (record { cycle = cycle; slot = slot; set = set; active = active })) }
+    ensures { IfOk result (λ text. string_bytes text
+        ≡ stop_line (record { cycle = cycle; slot = slot; set = set; active = active })) }
 {
     let slot = slot_text(slot);
     let set = set_text(alloc, set)?;
@@ -150,7 +154,8 @@ pub fn write_stop(
     set: ChanSet,
     active: ChanSet,
 ) -> Result<(), AllocError>
-    ensures written { OnOk result (text.new ≡ text.old ++ stop_line (record { cycle = cycle; slot = slot; set = set; active = active })) }
+    ensures written { OnOk result
+        (text.new ≡ text.old ++ stop_line (record { cycle = cycle; slot = slot; set = set; active = active })) }
     ensures refused { OnErr result (text.new ≡ text.old) }
 {
     text.push_str(&stop_line(alloc, cycle, slot, set, active)?)

@@ -75,13 +75,16 @@ differ h = absurd (wrong h)
     wrong : false ≡ true → ⊥
     wrong k = cc
 
-begins_low : (M : MissionValue) (told : Told) (c : ℕ) (active : List ℕ) (t : Option TransferValue) → cycle_fits M told c active t ≡ true → length told < M.cycles
+begins_low : (M : MissionValue) (told : Told) (c : ℕ) (active : List ℕ) (t : Option TransferValue) →
+    cycle_fits M told c active t ≡ true → length told < M.cycles
 begins_low M told c active t h =
-    let a = both (nat_lt c M.cycles && c == next_cycle_number told) (bytes_eq active (active_told M told) && transfer_fits M told active t) h in
+    let a = both (nat_lt c M.cycles && c == next_cycle_number told)
+    (bytes_eq active (active_told M told) && transfer_fits M told active t) h in
     let b = both (nat_lt c M.cycles) (c == next_cycle_number told) a.0 in
     omega (arith, leb-true (suc c) M.cycles b.0, eqb-true c (next_cycle_number told) b.1)
 
-ends_by : (M : MissionValue) (told : Told) (r r' : RecordValue) (o : Option ActuatorValue) → Placed M (amid told r) → LeadsOn M (amid told r) (after_cycle o (r' ∷ told))
+ends_by : (M : MissionValue) (told : Told) (r r' : RecordValue) (o : Option ActuatorValue) → Placed M (amid told r) →
+    LeadsOn M (amid told r) (after_cycle o (r' ∷ told))
 ends_by M told r r' None h = record { placed = omega (arith, h.0); more = omega (arith, h.1, h.2) }
 ends_by M told r r' (Some a) h = record { placed = omega (arith, h.0); more = omega (arith, h.1, h.2) }
 
@@ -89,22 +92,36 @@ map_more : {A : Type 0} (f : A → ℕ) (xs : List A) (x : A) → map f (xs ++ x
 map_more f [] x = refl
 map_more f (y ∷ xs) x = ap (λ ys. f y ∷ ys) (map_more f xs x)
 
-pub leads_on : (M : MissionValue) (p : Place) (line : ReportLine) → is_form line ≡ true → suits_place M p line ≡ true → Placed M p → LeadsOn M p (following_place M p line)
+pub leads_on : (M : MissionValue) (p : Place) (line : ReportLine) → is_form line ≡ true → suits_place M p line ≡ true →
+    Placed M p → LeadsOn M p (following_place M p line)
 leads_on M at_head (head_told n m) form h k = record { placed = omega arith; more = omega arith }
-leads_on M (between told) (cycle_told c active t) form h k = record { placed = (begins_low M told c active t h, omega arith, omega arith); more = omega arith }
+leads_on M (between told) (cycle_told c active t) form h k =
+    record { placed = (begins_low M told c active t h, omega arith, omega arith); more = omega arith }
 leads_on M (between told) (done_told n) form h k =
-    record { placed = tt; more = omega (arith, eqb-true (length told) M.cycles (both (next_cycle_number told == M.cycles) (n == M.cycles) h).0) }
+    record {
+      placed = tt;
+      more =
+          omega (
+            arith,
+            eqb-true (length told) M.cycles
+                (both (next_cycle_number told == M.cycles) (n == M.cycles) h).0,
+          );
+    }
 leads_on M (amid told r) (channel_told l) form h k =
     let f = λ (x : LineValue). x.channel in
-    let next = (both (is_empty r.traces) (comes_next r.active (map f r.lines) l.channel) (both (is_empty r.traces && comes_next r.active (map f r.lines) l.channel) (says_fit M told r l) h).0).1 in
-    let under = top_under l.channel (map f r.lines) (both (has r.active l.channel) (list_all (λ q. nat_lt q l.channel) (map f r.lines)) next).1 in
+    let next = (both (is_empty r.traces) (comes_next r.active (map f r.lines) l.channel)
+    (both (is_empty r.traces && comes_next r.active (map f r.lines) l.channel) (says_fit M told r l) h).0).1 in
+    let under = top_under l.channel (map f r.lines)
+    (both (has r.active l.channel) (list_all (λ q. nat_lt q l.channel) (map f r.lines)) next).1 in
     let low = leb-true (suc l.channel) 7 (both (is_channel l.channel) _ form).0 in
     let grown = ap top (map_more f r.lines l) ∙ top_more (map f r.lines) l.channel in
     record { placed = (k.0, omega (arith, grown, under, low, k.1), k.2); more = omega (arith, grown, under) }
 leads_on M (amid told r) (steps_told t) form h k =
     let f = λ (x : TraceValue). x.channel in
-    let next = (both (not (is_empty r.lines)) (comes_next r.active (map f r.traces) t.channel) (both (not (is_empty r.lines) && comes_next r.active (map f r.traces) t.channel) _ h).0).1 in
-    let under = top_under t.channel (map f r.traces) (both (has r.active t.channel) (list_all (λ q. nat_lt q t.channel) (map f r.traces)) next).1 in
+    let next = (both (not (is_empty r.lines)) (comes_next r.active (map f r.traces) t.channel)
+    (both (not (is_empty r.lines) && comes_next r.active (map f r.traces) t.channel) _ h).0).1 in
+    let under = top_under t.channel (map f r.traces)
+    (both (has r.active t.channel) (list_all (λ q. nat_lt q t.channel) (map f r.traces)) next).1 in
     let low = leb-true (suc t.channel) 7 form in
     let grown = ap top (map_more f r.traces t) ∙ top_more (map f r.traces) t.channel in
     record { placed = (k.0, k.1, omega (arith, grown, under, low, k.2)); more = omega (arith, grown, under) }

@@ -40,7 +40,8 @@ pub lacks_transfer : (o : Option TransferValue) → lacks 32 (transfer_text o) �
 lacks_transfer None = refl
 lacks_transfer (Some t) =
     all-append (λ b. not (b == 32)) (set_text t.targets ++ codes "@") (decimal t.start)
-    (all-append (λ b. not (b == 32)) (set_text t.targets) (codes "@") (lacks_set t.targets) refl) (lacks-decimal 32 t.start refl)
+    (all-append (λ b. not (b == 32)) (set_text t.targets) (codes "@") (lacks_set t.targets) refl)
+    (lacks-decimal 32 t.start refl)
 
 pub lacks_remaining : (o : Option ℕ) → lacks 32 (remaining_text o) ≡ true
 lacks_remaining None = refl
@@ -65,7 +66,8 @@ lacks_word (done_told n) = refl
 lacks_word (stop_told stop) = refl
 
 -- a line is its fields at spaces, and a line end
-pub spelled_fields : (line : ReportLine) → line_spelling line ≡ join_with_byte 32 (first_word line ∷ fields line) ++ line_end
+pub spelled_fields : (line : ReportLine) →
+    line_spelling line ≡ join_with_byte 32 (first_word line ∷ fields line) ++ line_end
 spelled_fields (head_told n m) = simp append_assoc
 spelled_fields (cycle_told c active transfer) = simp append_assoc
 spelled_fields (channel_told l) = simp append_assoc
@@ -98,10 +100,14 @@ pub record ChannelParts (s : Sizes) (l : LineValue) : Type 0 where
   pub lacks_votes : lacks 32 (join_with_byte 44 (map vote_text l.votes)) ≡ true
   pub lacks_counts : lacks 32 (join_with_byte 44 (map decimal l.counts)) ≡ true
 
-pub channel_parts : (s : Sizes) (l : LineValue) → is_form (channel_told l) ≡ true → has_sizes s (channel_told l) ≡ true → ChannelParts s l
+pub channel_parts : (s : Sizes) (l : LineValue) → is_form (channel_told l) ≡ true →
+    has_sizes s (channel_told l) ≡ true → ChannelParts s l
 channel_parts s l h k =
-    let parts = both (is_channel l.channel) ((some_that is_word l.inputs && some_that is_cast l.votes) && (is_set l.judged && some_that is_small l.counts)) h in
-    let more = both (some_that is_word l.inputs && some_that is_cast l.votes) (is_set l.judged && some_that is_small l.counts) parts.1 in
+    let parts = both (is_channel l.channel)
+    ((some_that is_word l.inputs && some_that is_cast l.votes) && (is_set l.judged && some_that is_small l.counts))
+    h in
+    let more = both (some_that is_word l.inputs && some_that is_cast l.votes)
+    (is_set l.judged && some_that is_small l.counts) parts.1 in
     let words = both (some_that is_word l.inputs) (some_that is_cast l.votes) more.0 in
     let rest = both (is_set l.judged) (some_that is_small l.counts) more.1 in
     let size = both (length l.inputs == s.width && length l.votes == s.outputs) (length l.counts == s.channels) k in
@@ -134,12 +140,21 @@ after_inputs l = codes "vote" ∷ join_with_byte 44 (map vote_text l.votes) ∷ 
 abbrev pub after_channel : LineValue → List TextValue
 after_channel l = codes "in" ∷ words_text l.inputs ∷ after_inputs l
 
-pub channel_formed : (s : Sizes) (chan : ℕ) (inputs : List ℤ) (votes : List (Option ℤ)) (judged : ChannelSet) (counts : List ℕ) → is_channel chan ≡ true →
-    some_that is_word (take s.width inputs) ≡ true → some_that is_cast (take s.outputs votes) ≡ true → is_set judged ≡ true → some_that is_small (take s.channels counts) ≡ true →
-    is_form (channel_told (record { channel = chan; inputs = take s.width inputs; votes = take s.outputs votes; judged = judged; counts = take s.channels counts })) ≡ true
+pub channel_formed : (s : Sizes) (chan : ℕ) (inputs : List ℤ) (votes : List (Option ℤ)) (judged : ChannelSet)
+    (counts : List ℕ) → is_channel chan ≡ true →
+    some_that is_word (take s.width inputs) ≡ true → some_that is_cast (take s.outputs votes) ≡ true →
+    is_set judged ≡ true → some_that is_small (take s.channels counts) ≡ true →
+    is_form (channel_told (record {
+      channel = chan;
+      inputs = take s.width inputs;
+      votes = take s.outputs votes;
+      judged = judged;
+      counts = take s.channels counts;
+    })) ≡ true
 channel_formed s chan inputs votes judged counts h i v j k =
     and_true (is_channel chan) _ h
-    (and_true (some_that is_word (take s.width inputs) && some_that is_cast (take s.outputs votes)) (is_set judged && some_that is_small (take s.channels counts))
+    (and_true (some_that is_word (take s.width inputs) && some_that is_cast (take s.outputs votes))
+    (is_set judged && some_that is_small (take s.channels counts))
     (and_true (some_that is_word (take s.width inputs)) (some_that is_cast (take s.outputs votes)) i v)
     (and_true (is_set judged) (some_that is_small (take s.channels counts)) j k))
 
@@ -153,13 +168,17 @@ apart a b h e = differ (sym ((bytes_eq-Decides a b).1 e) ∙ h)
 
 -- a line is read by its first word
 pub by_word : (s : Sizes) (text word rest W : TextValue) (read : Option Line) → word ≡ W →
-    ((first : TextValue) (pieces : List TextValue) → lacks 32 first ≡ true → text ≡ join_with_byte 32 (first ∷ pieces) → (word ≡ first) × (rest ≡ join_with_byte 32 pieces)) →
-    ((line : ReportLine) → first_word line ≡ W → IsReadAs s rest read line) → (line : ReportLine) → IsReadFrom s (first_word line ∷ fields line) text line read
+    ((first : TextValue) (pieces : List TextValue) → lacks 32 first ≡ true → text ≡ join_with_byte 32 (first ∷ pieces) →
+    (word ≡ first) × (rest ≡ join_with_byte 32 pieces)) →
+    ((line : ReportLine) → first_word line ≡ W → IsReadAs s rest read line) → (line : ReportLine) →
+    IsReadFrom s (first_word line ∷ fields line) text line read
 by_word s text word rest W read is cut all line form size e =
     let parts = cut (first_word line) (fields line) (lacks_word line) e in
     all line (sym parts.0 ∙ is) form size parts.1
 
-pub head_word : (s : Sizes) (rest : TextValue) (read : Option Line) → ((n m : ℕ) → IsReadAs s rest read (head_told n m)) → (line : ReportLine) → first_word line ≡ codes "guards" → IsReadAs s rest read line
+pub head_word : (s : Sizes) (rest : TextValue) (read : Option Line) →
+    ((n m : ℕ) → IsReadAs s rest read (head_told n m)) → (line : ReportLine) → first_word line ≡ codes "guards" →
+    IsReadAs s rest read line
 head_word s rest read h (head_told n m) e = h n m
 head_word s rest read h (cycle_told k active transfer) e = absurd (apart (codes "cycle") (codes "guards") refl e)
 head_word s rest read h (channel_told l) e = absurd (apart (codes "ch") (codes "guards") refl e)
@@ -169,7 +188,10 @@ head_word s rest read h (out_told words) e = absurd (apart (codes "out") (codes 
 head_word s rest read h (stop_told stop) e = absurd (apart (codes "stop") (codes "guards") refl e)
 head_word s rest read h (done_told n) e = absurd (apart (codes "done") (codes "guards") refl e)
 
-pub cycle_word : (s : Sizes) (rest : TextValue) (read : Option Line) → ((k : ℕ) (active : ChannelSet) (transfer : Option TransferValue) → IsReadAs s rest read (cycle_told k active transfer)) → (line : ReportLine) → first_word line ≡ codes "cycle" → IsReadAs s rest read line
+pub cycle_word : (s : Sizes) (rest : TextValue) (read : Option Line) →
+    ((k : ℕ) (active : ChannelSet) (transfer : Option TransferValue) →
+    IsReadAs s rest read (cycle_told k active transfer)) → (line : ReportLine) → first_word line ≡ codes "cycle" →
+    IsReadAs s rest read line
 cycle_word s rest read h (head_told n m) e = absurd (apart (codes "guards") (codes "cycle") refl e)
 cycle_word s rest read h (cycle_told k active transfer) e = h k active transfer
 cycle_word s rest read h (channel_told l) e = absurd (apart (codes "ch") (codes "cycle") refl e)
@@ -179,7 +201,9 @@ cycle_word s rest read h (out_told words) e = absurd (apart (codes "out") (codes
 cycle_word s rest read h (stop_told stop) e = absurd (apart (codes "stop") (codes "cycle") refl e)
 cycle_word s rest read h (done_told n) e = absurd (apart (codes "done") (codes "cycle") refl e)
 
-pub channel_word : (s : Sizes) (rest : TextValue) (read : Option Line) → ((l : LineValue) → IsReadAs s rest read (channel_told l)) → (line : ReportLine) → first_word line ≡ codes "ch" → IsReadAs s rest read line
+pub channel_word : (s : Sizes) (rest : TextValue) (read : Option Line) →
+    ((l : LineValue) → IsReadAs s rest read (channel_told l)) → (line : ReportLine) → first_word line ≡ codes "ch" →
+    IsReadAs s rest read line
 channel_word s rest read h (head_told n m) e = absurd (apart (codes "guards") (codes "ch") refl e)
 channel_word s rest read h (cycle_told k active transfer) e = absurd (apart (codes "cycle") (codes "ch") refl e)
 channel_word s rest read h (channel_told l) e = h l
@@ -189,7 +213,9 @@ channel_word s rest read h (out_told words) e = absurd (apart (codes "out") (cod
 channel_word s rest read h (stop_told stop) e = absurd (apart (codes "stop") (codes "ch") refl e)
 channel_word s rest read h (done_told n) e = absurd (apart (codes "done") (codes "ch") refl e)
 
-pub steps_word : (s : Sizes) (rest : TextValue) (read : Option Line) → ((t : TraceValue) → IsReadAs s rest read (steps_told t)) → (line : ReportLine) → first_word line ≡ codes "trace" → IsReadAs s rest read line
+pub steps_word : (s : Sizes) (rest : TextValue) (read : Option Line) →
+    ((t : TraceValue) → IsReadAs s rest read (steps_told t)) → (line : ReportLine) → first_word line ≡ codes "trace" →
+    IsReadAs s rest read line
 steps_word s rest read h (head_told n m) e = absurd (apart (codes "guards") (codes "trace") refl e)
 steps_word s rest read h (cycle_told k active transfer) e = absurd (apart (codes "cycle") (codes "trace") refl e)
 steps_word s rest read h (channel_told l) e = absurd (apart (codes "ch") (codes "trace") refl e)
@@ -199,7 +225,9 @@ steps_word s rest read h (out_told words) e = absurd (apart (codes "out") (codes
 steps_word s rest read h (stop_told stop) e = absurd (apart (codes "stop") (codes "trace") refl e)
 steps_word s rest read h (done_told n) e = absurd (apart (codes "done") (codes "trace") refl e)
 
-pub end_word : (s : Sizes) (rest : TextValue) (read : Option Line) → ((removed joined : ChannelSet) (left : Option ℕ) → IsReadAs s rest read (end_told removed joined left)) → (line : ReportLine) → first_word line ≡ codes "end" → IsReadAs s rest read line
+pub end_word : (s : Sizes) (rest : TextValue) (read : Option Line) →
+    ((removed joined : ChannelSet) (left : Option ℕ) → IsReadAs s rest read (end_told removed joined left)) →
+    (line : ReportLine) → first_word line ≡ codes "end" → IsReadAs s rest read line
 end_word s rest read h (head_told n m) e = absurd (apart (codes "guards") (codes "end") refl e)
 end_word s rest read h (cycle_told k active transfer) e = absurd (apart (codes "cycle") (codes "end") refl e)
 end_word s rest read h (channel_told l) e = absurd (apart (codes "ch") (codes "end") refl e)
@@ -209,7 +237,8 @@ end_word s rest read h (out_told words) e = absurd (apart (codes "out") (codes "
 end_word s rest read h (stop_told stop) e = absurd (apart (codes "stop") (codes "end") refl e)
 end_word s rest read h (done_told n) e = absurd (apart (codes "done") (codes "end") refl e)
 
-pub done_word : (s : Sizes) (rest : TextValue) (read : Option Line) → ((n : ℕ) → IsReadAs s rest read (done_told n)) → (line : ReportLine) → first_word line ≡ codes "done" → IsReadAs s rest read line
+pub done_word : (s : Sizes) (rest : TextValue) (read : Option Line) → ((n : ℕ) → IsReadAs s rest read (done_told n)) →
+    (line : ReportLine) → first_word line ≡ codes "done" → IsReadAs s rest read line
 done_word s rest read h (head_told n m) e = absurd (apart (codes "guards") (codes "done") refl e)
 done_word s rest read h (cycle_told k active transfer) e = absurd (apart (codes "cycle") (codes "done") refl e)
 done_word s rest read h (channel_told l) e = absurd (apart (codes "ch") (codes "done") refl e)
@@ -219,7 +248,9 @@ done_word s rest read h (out_told words) e = absurd (apart (codes "out") (codes 
 done_word s rest read h (stop_told stop) e = absurd (apart (codes "stop") (codes "done") refl e)
 done_word s rest read h (done_told n) e = h n
 
-pub out_word : (s : Sizes) (rest : TextValue) (read : Option Line) → ((words : List ℤ) → IsReadAs s rest read (out_told words)) → (line : ReportLine) → first_word line ≡ codes "out" → IsReadAs s rest read line
+pub out_word : (s : Sizes) (rest : TextValue) (read : Option Line) →
+    ((words : List ℤ) → IsReadAs s rest read (out_told words)) → (line : ReportLine) → first_word line ≡ codes "out" →
+    IsReadAs s rest read line
 out_word s rest read h (head_told n m) e = absurd (apart (codes "guards") (codes "out") refl e)
 out_word s rest read h (cycle_told k active transfer) e = absurd (apart (codes "cycle") (codes "out") refl e)
 out_word s rest read h (channel_told l) e = absurd (apart (codes "ch") (codes "out") refl e)
@@ -262,17 +293,23 @@ no_front (x ∷ xs) (y ∷ ys) a b h = let first = head h in let rest = no_front
     tail k = cc
 
 -- a text that ends its line and is read as a line is the fields of that line
-pub body_is : (text body : TextValue) (line : ReportLine) → text ≡ body ++ line_end → line_read text ≡ Some line → (body ≡ join_with_byte 32 (first_word line ∷ fields line)) × (is_form line ≡ true)
+pub body_is : (text body : TextValue) (line : ReportLine) → text ≡ body ++ line_end → line_read text ≡ Some line →
+    (body ≡ join_with_byte 32 (first_word line ∷ fields line)) × (is_form line ≡ true)
 body_is text body line e h =
-    let read = line_is text line h in
-    (no_front body (join_with_byte 32 (first_word line ∷ fields line)) 10 10 (sym e ∙ read.0 ∙ spelled_fields line), read.1)
+    let read = line_is text line h in (
+      no_front body (join_with_byte 32 (first_word line ∷ fields line)) 10 10 (sym e ∙ read.0 ∙ spelled_fields line),
+      read.1,
+    )
 
 -- a text without a line end is no line
-pub no_end : (text : TextValue) (line : ReportLine) → ((front : List ℕ) → text ≡ front ++ 10 ∷ [] → ⊥) → line_read text ≡ Some line → ⊥
-no_end text line h k = h (join_with_byte 32 (first_word line ∷ fields line)) ((line_is text line k).0 ∙ spelled_fields line)
+pub no_end : (text : TextValue) (line : ReportLine) → ((front : List ℕ) → text ≡ front ++ 10 ∷ [] → ⊥) →
+    line_read text ≡ Some line → ⊥
+no_end text line h k = h (join_with_byte 32 (first_word line ∷ fields line))
+    ((line_is text line k).0 ∙ spelled_fields line)
 
 -- none is read where no line has the sizes
-pub none_read : (s : Sizes) (text body : TextValue) (read : Option Line) → text ≡ body ++ line_end → read ≡ None → ((line : ReportLine) → IsReadFrom s (first_word line ∷ fields line) body line read) →
+pub none_read : (s : Sizes) (text body : TextValue) (read : Option Line) → text ≡ body ++ line_end → read ≡ None →
+    ((line : ReportLine) → IsReadFrom s (first_word line ∷ fields line) body line read) →
     (line : ReportLine) → line_read text ≡ Some line → has_sizes s line ≡ false
 none_read s text body read e none all line h =
     by_sizes (has_sizes s line) refl
@@ -288,12 +325,15 @@ none_read s text body read e none all line h =
     by_sizes true k = absurd (empty (ap (option_map (line_value s)) (sym none) ∙ all line fields_are.1 k fields_are.0))
 
 -- a line that is read and spelled again is the line of the text
-pub some_read : (s : Sizes) (text : TextValue) (line : Line) → is_form (line_value s line) ≡ true → line_spelling (line_value s line) ≡ text → line_read text ≡ Some (line_value s line)
+pub some_read : (s : Sizes) (text : TextValue) (line : Line) → is_form (line_value s line) ≡ true →
+    line_spelling (line_value s line) ≡ text → line_read text ≡ Some (line_value s line)
 some_read s text line form e = ap line_read (sym e) ∙ line_back (line_value s line) form
 
 -- and where it is spelled otherwise, the text has no line
-pub other_spelling : (s : Sizes) (text body : TextValue) (got : Line) (read : Option Line) → text ≡ body ++ line_end → read ≡ Some got →
-    ((line : ReportLine) → IsReadFrom s (first_word line ∷ fields line) body line read) → (line_spelling (line_value s got) ≡ text → ⊥) →
+pub other_spelling : (s : Sizes) (text body : TextValue) (got : Line) (read : Option Line) → text ≡ body ++ line_end →
+    read ≡ Some got →
+    ((line : ReportLine) → IsReadFrom s (first_word line ∷ fields line) body line read) →
+    (line_spelling (line_value s got) ≡ text → ⊥) →
     (line : ReportLine) → line_read text ≡ Some line → has_sizes s line ≡ false
 other_spelling s text body got read e is all differs line h =
     by_sizes (has_sizes s line) refl
@@ -307,7 +347,9 @@ other_spelling s text body got read e is all differs line h =
     by_sizes : (b : Bool) → has_sizes s line ≡ b → b ≡ false
     by_sizes false k = refl
     by_sizes true k =
-        absurd (differs (ap line_spelling (same (ap (option_map (line_value s)) (sym is) ∙ all line fields_are.1 k fields_are.0)) ∙ sym (line_is text line h).0))
+        absurd (differs (ap line_spelling
+        (same (ap (option_map (line_value s)) (sym is) ∙ all line fields_are.1 k fields_are.0))
+        ∙ sym (line_is text line h).0))
 
 -- ---- a spelled line is text
 
@@ -328,7 +370,9 @@ ascii_transfer : (o : Option TransferValue) → list_all ascii (transfer_text o)
 unfolding ascii
 ascii_transfer None = refl
 ascii_transfer (Some t) =
-    more_ascii (set_text t.targets ++ codes "@") (decimal t.start) (more_ascii (set_text t.targets) (codes "@") (plain_ascii (set_text t.targets) (plain-set t.targets)) refl) (plain_ascii (decimal t.start) (plain-decimal t.start))
+    more_ascii (set_text t.targets ++ codes "@") (decimal t.start)
+    (more_ascii (set_text t.targets) (codes "@") (plain_ascii (set_text t.targets) (plain-set t.targets)) refl)
+    (plain_ascii (decimal t.start) (plain-decimal t.start))
 
 ascii_remaining : (o : Option ℕ) → list_all ascii (remaining_text o) ≡ true
 unfolding ascii
@@ -360,31 +404,44 @@ ascii_slot slot.Output = refl
 
 ascii_fields : (line : ReportLine) → is_form line ≡ true → list_all (list_all ascii) (fields line) ≡ true
 unfolding ascii
-ascii_fields (head_told n m) h = and_true (list_all ascii (decimal n)) _ (plain_ascii (decimal n) (plain-decimal n)) (and_true (list_all ascii (decimal m)) true (plain_ascii (decimal m) (plain-decimal m)) refl)
+ascii_fields (head_told n m) h =
+    and_true (list_all ascii (decimal n)) _ (plain_ascii (decimal n) (plain-decimal n))
+    (and_true (list_all ascii (decimal m)) true (plain_ascii (decimal m) (plain-decimal m)) refl)
 ascii_fields (cycle_told k active transfer) h =
     and_true (list_all ascii (decimal k)) _ (plain_ascii (decimal k) (plain-decimal k))
-    (and_true (list_all ascii (set_text active)) _ (plain_ascii (set_text active) (plain-set active)) (and_true (list_all ascii (transfer_text transfer)) true (ascii_transfer transfer) refl))
+    (and_true (list_all ascii (set_text active)) _ (plain_ascii (set_text active) (plain-set active))
+    (and_true (list_all ascii (transfer_text transfer)) true (ascii_transfer transfer) refl))
 ascii_fields (channel_told l) h =
-    let parts = both (is_channel l.channel) ((some_that is_word l.inputs && some_that is_cast l.votes) && (is_set l.judged && some_that is_small l.counts)) h in
-    let more = both (some_that is_word l.inputs && some_that is_cast l.votes) (is_set l.judged && some_that is_small l.counts) parts.1 in
+    let parts = both (is_channel l.channel)
+    ((some_that is_word l.inputs && some_that is_cast l.votes) && (is_set l.judged && some_that is_small l.counts))
+    h in
+    let more = both (some_that is_word l.inputs && some_that is_cast l.votes)
+    (is_set l.judged && some_that is_small l.counts) parts.1 in
     let words = both (some_that is_word l.inputs) (some_that is_cast l.votes) more.0 in
     let votes : TextValue = join_with_byte 44 (map vote_text l.votes) in
     let counts : TextValue = join_with_byte 44 (map decimal l.counts) in
     and_true (list_all ascii (decimal l.channel)) _ (plain_ascii (decimal l.channel) (plain-decimal l.channel))
     (and_true (list_all ascii (words_text l.inputs)) _ (plain_ascii (words_text l.inputs) (plain-words l.inputs))
     (and_true (list_all ascii votes) _ (plain_ascii votes (plain-votes l.votes words.1))
-    (and_true (list_all ascii (set_text l.judged)) _ (plain_ascii (set_text l.judged) (plain-set l.judged)) (and_true (list_all ascii counts) true (plain_ascii counts (plain-numbers l.counts)) refl))))
+    (and_true (list_all ascii (set_text l.judged)) _ (plain_ascii (set_text l.judged) (plain-set l.judged))
+    (and_true (list_all ascii counts) true (plain_ascii counts (plain-numbers l.counts)) refl))))
 ascii_fields (steps_told t) h =
-    and_true (list_all ascii (decimal t.channel)) _ (plain_ascii (decimal t.channel) (plain-decimal t.channel)) (and_true (list_all ascii (steps_text t.steps)) true (ascii_steps t.steps) refl)
+    and_true (list_all ascii (decimal t.channel)) _ (plain_ascii (decimal t.channel) (plain-decimal t.channel))
+    (and_true (list_all ascii (steps_text t.steps)) true (ascii_steps t.steps) refl)
 ascii_fields (end_told removed joined left) h =
     and_true (list_all ascii (set_text removed)) _ (plain_ascii (set_text removed) (plain-set removed))
-    (and_true (list_all ascii (set_text joined)) _ (plain_ascii (set_text joined) (plain-set joined)) (and_true (list_all ascii (remaining_text left)) true (ascii_remaining left) refl))
-ascii_fields (out_told words) h = and_true (list_all ascii (words_text words)) true (plain_ascii (words_text words) (plain-words words)) refl
+    (and_true (list_all ascii (set_text joined)) _ (plain_ascii (set_text joined) (plain-set joined))
+    (and_true (list_all ascii (remaining_text left)) true (ascii_remaining left) refl))
+ascii_fields (out_told words) h =
+    and_true (list_all ascii (words_text words)) true (plain_ascii (words_text words) (plain-words words)) refl
 ascii_fields (stop_told stop) h =
     and_true (list_all ascii (decimal stop.cycle)) _ (plain_ascii (decimal stop.cycle) (plain-decimal stop.cycle))
     (and_true (list_all ascii (slot_text stop.slot)) _ (ascii_slot stop.slot)
-    (and_true (list_all ascii (set_text stop.set)) _ (plain_ascii (set_text stop.set) (plain-set stop.set)) (and_true (list_all ascii (set_text stop.active)) true (plain_ascii (set_text stop.active) (plain-set stop.active)) refl)))
-ascii_fields (done_told n) h = and_true (list_all ascii (decimal n)) true (plain_ascii (decimal n) (plain-decimal n)) refl
+    (and_true (list_all ascii (set_text stop.set)) _ (plain_ascii (set_text stop.set) (plain-set stop.set))
+    (and_true (list_all ascii (set_text stop.active)) true
+    (plain_ascii (set_text stop.active) (plain-set stop.active)) refl)))
+ascii_fields (done_told n) h =
+    and_true (list_all ascii (decimal n)) true (plain_ascii (decimal n) (plain-decimal n)) refl
 
 ascii_word : (line : ReportLine) → list_all ascii (first_word line) ≡ true
 unfolding ascii
@@ -397,7 +454,8 @@ ascii_word (out_told words) = refl
 ascii_word (done_told n) = refl
 ascii_word (stop_told stop) = refl
 
-ascii_join : (first : TextValue) (pieces : List TextValue) → list_all ascii first ≡ true → list_all (list_all ascii) pieces ≡ true → list_all ascii (join_with_byte 32 (first ∷ pieces)) ≡ true
+ascii_join : (first : TextValue) (pieces : List TextValue) → list_all ascii first ≡ true →
+    list_all (list_all ascii) pieces ≡ true → list_all ascii (join_with_byte 32 (first ∷ pieces)) ≡ true
 unfolding ascii
 ascii_join first [] h k = h
 ascii_join first (x ∷ pieces) h k =
@@ -416,5 +474,8 @@ unfolding ascii
 no_text text line h k =
     let read = line_is text line k in
     let whole : list_all ascii (join_with_byte 32 (first_word line ∷ fields line) ++ line_end) ≡ true
-    = more_ascii (join_with_byte 32 (first_word line ∷ fields line)) line_end (ascii_join (first_word line) (fields line) (ascii_word line) (ascii_fields line read.1)) refl in
-    h (subst IsUtf8 (sym (read.0 ∙ spelled_fields line)) (IsUtf8-from_ascii (join_with_byte 32 (first_word line ∷ fields line) ++ line_end) (ascii_at (join_with_byte 32 (first_word line ∷ fields line) ++ line_end) whole)))
+    = more_ascii (join_with_byte 32 (first_word line ∷ fields line)) line_end
+    (ascii_join (first_word line) (fields line) (ascii_word line) (ascii_fields line read.1)) refl in
+    h (subst IsUtf8 (sym (read.0 ∙ spelled_fields line))
+    (IsUtf8-from_ascii (join_with_byte 32 (first_word line ∷ fields line) ++ line_end)
+    (ascii_at (join_with_byte 32 (first_word line ∷ fields line) ++ line_end) whole)))

@@ -23,16 +23,22 @@ carry_apart c q y h = ap (λ b. (b && y.from == q) && y.to == actuator) h
 charge_apart : (c : ℕ) (q : Channel) (y : EntryValue) → is_apart c y → is_output_charge c q y ≡ false
 charge_apart c q y h = ap (λ b. (b && y.from == q) && differs_from y.sent y.delivered) h
 
-none_found : (c : ℕ) (q : Channel) (ys : Log) → AllByRecursion (is_apart c) ys → find (is_carry c Output q actuator) ys ≡ None
+none_found : (c : ℕ) (q : Channel) (ys : Log) → AllByRecursion (is_apart c) ys →
+    find (is_carry c Output q actuator) ys ≡ None
 none_found c q [] h = refl
-none_found c q (y ∷ ys) h = ap (λ b. cond b (Some y) (find (is_carry c Output q actuator) ys)) (carry_apart c q y h.0) ∙ none_found c q ys h.1
+none_found c q (y ∷ ys) h =
+    ap (λ b. cond b (Some y) (find (is_carry c Output q actuator) ys)) (carry_apart c q y h.0) ∙ none_found c q ys h.1
 
-none_charged : (c : ℕ) (q : Channel) (ys : Log) → AllByRecursion (is_apart c) ys → list_any (is_output_charge c q) ys ≡ false
+none_charged : (c : ℕ) (q : Channel) (ys : Log) → AllByRecursion (is_apart c) ys →
+    list_any (is_output_charge c q) ys ≡ false
 none_charged c q [] h = refl
-none_charged c q (y ∷ ys) h = ap (λ b. b || list_any (is_output_charge c q) ys) (charge_apart c q y h.0) ∙ none_charged c q ys h.1
+none_charged c q (y ∷ ys) h =
+    ap (λ b. b || list_any (is_output_charge c q) ys) (charge_apart c q y h.0) ∙ none_charged c q ys h.1
 
 -- entries of other cycles and slots before and after change nothing of a cycle
-pub found_between : (c : ℕ) (q : Channel) (xs ys zs : Log) → AllByRecursion (is_apart c) xs → AllByRecursion (is_apart c) zs → find (is_carry c Output q actuator) ((xs ++ ys) ++ zs) ≡ find (is_carry c Output q actuator) ys
+pub found_between : (c : ℕ) (q : Channel) (xs ys zs : Log) → AllByRecursion (is_apart c) xs →
+    AllByRecursion (is_apart c) zs →
+    find (is_carry c Output q actuator) ((xs ++ ys) ++ zs) ≡ find (is_carry c Output q actuator) ys
 found_between c q xs ys zs h k =
     find-append (is_carry c Output q actuator) (xs ++ ys) zs
     ∙ ap (option_or (find (is_carry c Output q actuator) (xs ++ ys))) (none_found c q zs k)
@@ -44,23 +50,30 @@ found_between c q xs ys zs h k =
     or_none None = refl
     or_none (Some y) = refl
 
-pub charged_between : (c : ℕ) (q : Channel) (xs ys : Log) → AllByRecursion (is_apart c) xs → list_any (is_output_charge c q) (xs ++ ys) ≡ list_any (is_output_charge c q) ys
+pub charged_between : (c : ℕ) (q : Channel) (xs ys : Log) → AllByRecursion (is_apart c) xs →
+    list_any (is_output_charge c q) (xs ++ ys) ≡ list_any (is_output_charge c q) ys
 charged_between c q xs ys h =
-    list_any-append (is_output_charge c q) xs ys ∙ ap (λ b. b || list_any (is_output_charge c q) ys) (none_charged c q xs h)
+    list_any-append (is_output_charge c q) xs ys
+    ∙ ap (λ b. b || list_any (is_output_charge c q) ys) (none_charged c q xs h)
 
-pub charged_before : (c : ℕ) (q : Channel) (xs ys : Log) → AllByRecursion (is_apart c) ys → list_any (is_output_charge c q) (xs ++ ys) ≡ list_any (is_output_charge c q) xs
+pub charged_before : (c : ℕ) (q : Channel) (xs ys : Log) → AllByRecursion (is_apart c) ys →
+    list_any (is_output_charge c q) (xs ++ ys) ≡ list_any (is_output_charge c q) xs
 charged_before c q xs ys h =
-    list_any-append (is_output_charge c q) xs ys ∙ ap (λ b. list_any (is_output_charge c q) xs || b) (none_charged c q ys h) ∙ or_none (list_any (is_output_charge c q) xs)
+    list_any-append (is_output_charge c q) xs ys
+    ∙ ap (λ b. list_any (is_output_charge c q) xs || b) (none_charged c q ys h)
+    ∙ or_none (list_any (is_output_charge c q) xs)
   where
     or_none : (b : Bool) → (b || false) ≡ b
     or_none true = refl
     or_none false = refl
 
-pub ballots_between : (version outputs c : ℕ) (xs ys zs : Log) → AllByRecursion (is_apart c) xs → AllByRecursion (is_apart c) zs →
+pub ballots_between : (version outputs c : ℕ) (xs ys zs : Log) → AllByRecursion (is_apart c) xs →
+    AllByRecursion (is_apart c) zs →
     ballots_taken version outputs ((xs ++ ys) ++ zs) c ≡ ballots_taken version outputs ys c
 ballots_between version outputs c xs ys zs h k =
     ap (λ (f : Channel → Option (List ℤ)). by_channel f)
-    (fun_ext (λ q. ap (λ o. ballot_spelled version outputs c q (option_and_then (λ (e : EntryValue). e.delivered) o)) (found_between c q xs ys zs h k)))
+    (fun_ext (λ q. ap (λ o. ballot_spelled version outputs c q (option_and_then (λ (e : EntryValue). e.delivered) o))
+    (found_between c q xs ys zs h k)))
 
 pub later_apart : (c : ℕ) (ys : Log) → AreFrom (suc c) ys → AllByRecursion (is_apart c) ys
 later_apart c [] h = tt
@@ -73,8 +86,11 @@ weaker n [] h = tt
 weaker n (y ∷ ys) h = (omega (arith, h.0), weaker n ys h.1)
 
 -- entries of later cycles leave the words
-pub words_stay : (version : ℕ) (steps start : List ℤ) (F X : Log) (n : ℕ) → AreFrom n X → outputs_after version steps start (F ++ X) n ≡ outputs_after version steps start F n
+pub words_stay : (version : ℕ) (steps start : List ℤ) (F X : Log) (n : ℕ) → AreFrom n X →
+    outputs_after version steps start (F ++ X) n ≡ outputs_after version steps start F n
 words_stay version steps start F X zero h = refl
 words_stay version steps start F X (suc n) h =
-    ap (λ last. words_moved steps last (ballots_taken version (length start) (F ++ X) n)) (words_stay version steps start F X n (weaker n X h))
-    ∙ ap (words_moved steps (outputs_after version steps start F n)) (ballots_between version (length start) n [] F X tt (later_apart n X h))
+    ap (λ last. words_moved steps last (ballots_taken version (length start) (F ++ X) n))
+    (words_stay version steps start F X n (weaker n X h))
+    ∙ ap (words_moved steps (outputs_after version steps start F n))
+    (ballots_between version (length start) n [] F X tt (later_apart n X h))

@@ -41,17 +41,29 @@ same_rest xs ys us vs size h =
     sym (drop-append_seam xs us) ∙ ap (drop (length xs)) h ∙ ap (λ k. drop k (ys ++ vs)) size ∙ drop-append_seam ys vs
 
 -- the due entries of some cycles are equally many
-due_length : (M : MissionValue) (histories : Histories) (past : Past) (X Y : Log) → AreDueBy M histories past X → AreDueBy M histories past Y → length X ≡ length Y
+due_length : (M : MissionValue) (histories : Histories) (past : Past) (X Y : Log) → AreDueBy M histories past X →
+    AreDueBy M histories past Y → length X ≡ length Y
 due_length M histories [] X Y x y = ap (λ (l : Log). length l) (x ∙ sym y)
 due_length M histories (e ∷ past) X Y x y =
     let front = due_length M (earlier_steps histories) past x.0 y.0 x.3 y.3 in
     let size_x = zip_length _ (cycle_carries (length past) e) x.1 x.4 in
     let size_y = zip_length _ (cycle_carries (length past) e) y.1 y.4 in
-    omega (arith, ap (λ (l : Log). length l) x.2, ap (λ (l : Log). length l) y.2, length-append x.0 x.1, length-append y.0 y.1, front, size_x, size_y)
+    omega (
+      arith,
+      ap (λ (l : Log). length l) x.2,
+      ap (λ (l : Log). length l) y.2,
+      length-append x.0 x.1,
+      length-append y.0 y.1,
+      front,
+      size_x,
+      size_y,
+    )
 
 -- ---- entries of the nine slots
 
-pub due_on_bus : (M : MissionValue) (past : Past) (e : Cycle) (carries : List Carry) (now : Log) → AllZip (IsDue M past e) carries now → list_all (λ (k : Carry). on_bus k.slot) carries ≡ true → without_outputs now ≡ now
+pub due_on_bus : (M : MissionValue) (past : Past) (e : Cycle) (carries : List Carry) (now : Log) →
+    AllZip (IsDue M past e) carries now → list_all (λ (k : Carry). on_bus k.slot) carries ≡ true →
+    without_outputs now ≡ now
 due_on_bus M past e [] [] due on = refl
 due_on_bus M past e [] (y ∷ now) due on = absurd due
 due_on_bus M past e (k ∷ carries) [] due on = absurd due
@@ -60,13 +72,15 @@ due_on_bus M past e (k ∷ carries) (y ∷ now) due on =
     ap (λ b. cond b (y ∷ without_outputs now) (without_outputs now)) (ap on_bus due.0.slot ∙ parts.0)
     ∙ ap (λ ys. y ∷ ys) (due_on_bus M past e carries now due.1 parts.1)
 
-found_on_bus : (p : Slot → Bool) (slots : List Slot) (s : Slot) → list_all on_bus slots ≡ true → find p slots ≡ Some s → on_bus s ≡ true
+found_on_bus : (p : Slot → Bool) (slots : List Slot) (s : Slot) → list_all on_bus slots ≡ true → find p slots ≡ Some s →
+    on_bus s ≡ true
 found_on_bus p [] s all h = absurd cc
 found_on_bus p (x ∷ slots) s all h =
     let parts = both (on_bus x) (list_all on_bus slots) all in
     by (p x) parts.0 (found_on_bus p slots s parts.1) h
   where
-    by : (b : Bool) → on_bus x ≡ true → (find p slots ≡ Some s → on_bus s ≡ true) → cond b (Some x) (find p slots) ≡ Some s → on_bus s ≡ true
+    by : (b : Bool) → on_bus x ≡ true → (find p slots ≡ Some s → on_bus s ≡ true) →
+        cond b (Some x) (find p slots) ≡ Some s → on_bus s ≡ true
     by true on more h =
         let same : x ≡ s = cc in
         subst (λ t. on_bus t ≡ true) same on
@@ -79,7 +93,8 @@ stop_on_bus n e stop h = by (find (halts n e) every_slot) refl h
     told : Slot → StopValue
     told s = record { cycle = n; slot = s; set = disturbed_channels n e s; active = e.active }
 
-    by : (found : Option Slot) → find (halts n e) every_slot ≡ found → option_map told found ≡ Some stop → on_bus stop.slot ≡ true
+    by : (found : Option Slot) → find (halts n e) every_slot ≡ found → option_map told found ≡ Some stop →
+        on_bus stop.slot ≡ true
     by None is h = absurd cc
     by (Some s) is h =
         let same : told s ≡ stop = cc in
@@ -99,8 +114,10 @@ no_outputs Output version n e on = absurd cc
 
 -- ---- the ends
 
-module _ (may : List RuleValue → EntryValue → Type 0) (M : MissionValue) (a : ActuatorValue) (start bus : BusValue) (w : WorldValue) (gate : GateValue) (F K : Log) (histories : Histories)
-    (at : IsActing may M a start w bus gate F K histories) (now : Log) (stay : cycles_before M (K ++ now) w.done ≡ cycles_before M K w.done) where
+module _ (may : List RuleValue → EntryValue → Type 0) (M : MissionValue) (a : ActuatorValue) (start bus : BusValue)
+    (w : WorldValue) (gate : GateValue) (F K : Log) (histories : Histories)
+    (at : IsActing may M a start w bus gate F K histories) (now : Log)
+    (stay : cycles_before M (K ++ now) w.done ≡ cycles_before M K w.done) where
   abbrev n : ℕ
   n = w.done
 
@@ -112,7 +129,8 @@ module _ (may : List RuleValue → EntryValue → Type 0) (M : MissionValue) (a 
 
   module _ (r : HasRunPart M n (K ++ now) histories) where
     sizes : length K ≡ length r.before
-    sizes = due_length M histories past K r.before (subst (λ P. AreDueBy M histories P K) (sym stay) at.between.due) r.due
+    sizes = due_length M histories past K r.before (subst (λ P. AreDueBy M histories P K) (sym stay) at.between.due)
+        r.due
 
     front : K ≡ r.before
     front = same_front K r.before now r.now sizes r.entries
@@ -139,7 +157,8 @@ module _ (may : List RuleValue → EntryValue → Type 0) (M : MissionValue) (a 
 
     unstopped : acted_stop (F ++ now) past ≡ None
     unstopped =
-        stops_stay F now n past (omega (arith, length-cycles_before M (K ++ now) n)) fresh ∙ ap (acted_stop F) stay ∙ at.unstopped
+        stops_stay F now n past (omega (arith, length-cycles_before M (K ++ now) n)) fresh ∙ ap (acted_stop F) stay
+        ∙ at.unstopped
 
     ideal : (c : ℕ) → c ≤ n → words_after M a (F ++ now) c ≡ ideal_outputs M a.steps a.start (K ++ now) c
     ideal c low =
@@ -173,10 +192,13 @@ module _ (may : List RuleValue → EntryValue → Type 0) (M : MissionValue) (a 
       ideal = ideal;
     }
 
-  pub stopped : (stop : StopValue) → (r : HasRunToStop M n stop (K ++ now) histories) → ActedToStop M a n stop (F ++ now) (K ++ now) histories
+  pub stopped : (stop : StopValue) → (r : HasRunToStop M n stop (K ++ now) histories) →
+      ActedToStop M a n stop (F ++ now) (K ++ now) histories
   stopped stop r =
       let p : HasRunPart M n (K ++ now) histories = stop_breaks_off M n stop (K ++ now) histories r in
-      let sizes : length K ≡ length r.before = due_length M histories past K r.before (subst (λ P. AreDueBy M histories P K) (sym stay) at.between.due) r.due in
+      let sizes : length K ≡ length r.before =
+      due_length M histories past K r.before (subst (λ P. AreDueBy M histories P K) (sym stay) at.between.due)
+      r.due in
       let rest : now ≡ r.now = same_rest K r.before now r.now sizes r.entries in
       record {
         within = r.within;

@@ -37,16 +37,17 @@ AreActedBy M histories (e ∷ past) entries =
 -- the first few output entries of a cycle
 abbrev pub AreOutputsBegun : ℕ → ℕ → Cycle → Log → Type 0
 AreOutputsBegun version c e outs =
-    AllZip (λ q entry. IsOutputDue version c q (voted_words (place_or e.voted q [])) entry) (take (length outs) (channels_running_in Switch e)) outs
+    AllZip (λ q entry. IsOutputDue version c q (voted_words (place_or e.voted q [])) entry)
+    (take (length outs) (channels_running_in Switch e)) outs
 
 -- the output entries of a cycle up to the end of a slot: none before the output slot
 abbrev pub AreOutputsThrough : Slot → ℕ → ℕ → Cycle → Log → Type 0
 AreOutputsThrough Output version c e outs = AreOutputsDue version c e outs
 AreOutputsThrough _ version c e outs = outs ≡ []
 
--- The first n cycles ran, each with its exchange; none of them stopped, its output slot included, and F has their due entries
--- and no others. The facts of the cycles are those of L, those of F without output entries. After each cycle the actuator's
--- words are those that the output words of the ideal contexts moved them to.
+-- The first n cycles ran, each with its exchange; none of them stopped, its output slot included, and F has their due
+-- entries and no others. The facts of the cycles are those of L, those of F without output entries. After each cycle
+-- the actuator's words are those that the output words of the ideal contexts moved them to.
 pub record ActedCycles (M : MissionValue) (a : ActuatorValue) (n : ℕ) (F L : Log) (histories : Histories) : Type 0 where
   pub within : n ≤ M.cycles
   pub beside : length histories ≡ n
@@ -56,7 +57,8 @@ pub record ActedCycles (M : MissionValue) (a : ActuatorValue) (n : ℕ) (F L : L
   pub ideal : (c : ℕ) → c ≤ n → words_after M a F c ≡ ideal_outputs M a.steps a.start L c
 
 -- The first n cycles ran, and the next one up to the end of the slot that stopped it, which may be the output slot.
-pub record ActedToStop (M : MissionValue) (a : ActuatorValue) (n : ℕ) (stop : StopValue) (F L : Log) (histories : Histories) : Type 0 where
+pub record ActedToStop (M : MissionValue) (a : ActuatorValue) (n : ℕ) (stop : StopValue) (F L : Log)
+    (histories : Histories) : Type 0 where
   pub within : n < M.cycles
   pub beside : length histories ≡ n
   pub before : Log
@@ -65,7 +67,8 @@ pub record ActedToStop (M : MissionValue) (a : ActuatorValue) (n : ℕ) (stop : 
   pub entries : F ≡ before ++ (now ++ outs)
   pub acted : AreActedBy M histories (cycles_before M L n) before
   pub steps : Steps
-  pub due_now : AllZip (λ carry entry. IsMadeBy M (cycles_before M L n) (cycle_at M L n) (steps_of steps carry.from) carry entry)
+  pub due_now : AllZip (λ carry entry.
+      IsMadeBy M (cycles_before M L n) (cycle_at M L n) (steps_of steps carry.from) carry entry)
       (carries_through n (cycle_at M L n) stop.slot) now
   pub due_outs : AreOutputsThrough stop.slot M.rules.version n (cycle_at M L n) outs
   pub full : slot_index Tasks < slot_index stop.slot → AreFull M (cycles_before M L n) (cycle_at M L n) steps
@@ -74,8 +77,8 @@ pub record ActedToStop (M : MissionValue) (a : ActuatorValue) (n : ℕ) (stop : 
   pub sound : IsSound M L n
   pub ideal : (c : ℕ) → c ≤ n → words_after M a F c ≡ ideal_outputs M a.steps a.start L c
 
--- The first n cycles ran, and of the next one's due entries the first few were carried: of a cycle that the mission has, none
--- after a slot that stops the run, and output entries only behind all those of the nine slots.
+-- The first n cycles ran, and of the next one's due entries the first few were carried: of a cycle that the mission
+-- has, none after a slot that stops the run, and output entries only behind all those of the nine slots.
 pub record ActedPart (M : MissionValue) (a : ActuatorValue) (n : ℕ) (F L : Log) (histories : Histories) : Type 0 where
   pub within : n ≤ M.cycles
   pub beside : length histories ≡ n
@@ -97,10 +100,11 @@ pub record ActedPart (M : MissionValue) (a : ActuatorValue) (n : ℕ) (F L : Log
 
 -- ---- between two cycles
 
--- Between two cycles of a run with an actuator: F is what the log grew by. The cycles are those of L, which is F without
--- output entries; no slot stopped them, the output slot included; and the actuator's words are those of what it took, which are after each
--- cycle those that the output words of the ideal contexts moved them to.
-pub record IsActing (may : List RuleValue → EntryValue → Type 0) (M : MissionValue) (a : ActuatorValue) (start : BusValue) (w : WorldValue)
+-- Between two cycles of a run with an actuator: F is what the log grew by. The cycles are those of L, which is F
+-- without output entries; no slot stopped them, the output slot included; and the actuator's words are those of what it
+-- took, which are after each cycle those that the output words of the ideal contexts moved them to.
+pub record IsActing (may : List RuleValue → EntryValue → Type 0) (M : MissionValue) (a : ActuatorValue)
+    (start : BusValue) (w : WorldValue)
     (bus : BusValue) (gate : GateValue) (F L : Log) (histories : Histories) : Type 0 where
   pub sizes : length a.start ≡ length M.outputs
   pub between : IsBetween may M start w bus F L histories

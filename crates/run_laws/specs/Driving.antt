@@ -1,5 +1,5 @@
--- A run of a mission with an actuator or without one. Without one each word here says what is said of runs of nine slots.
--- This project's own.
+-- A run of a mission with an actuator or without one. Without one each word here says what is said of runs of nine
+-- slots. This project's own.
 use Rattle.std.specs.Prelude.{◌≡◌, ℕ, suc, Bool, List, [], ◌∷◌, ◌++◌, length, map, Option, Some, None, Result, Ok, Err}
 use Rattle.circular_buffer.specs.Buffer.{keep_last}
 use Rattle.guards_model.specs.declared.Slot.TheVariants.{Output}
@@ -51,9 +51,10 @@ RunBroken (Some a) M n F histories = ActedPart M a n F (without_outputs F) histo
 abbrev pub first_gate : ActuatorValue → GateValue
 first_gate a = record { steps = a.steps; words = a.start }
 
--- Between two cycles of a run that began with this bus: F is what the log grew by, and with an actuator its gate has the
--- words after these cycles.
-abbrev pub IsDriven : Option ActuatorValue → (List RuleValue → EntryValue → Type 0) → MissionValue → BusValue → WorldValue → BusValue →
+-- Between two cycles of a run that began with this bus: F is what the log grew by, and with an actuator its gate has
+-- the words after these cycles.
+abbrev pub IsDriven : Option ActuatorValue → (List RuleValue → EntryValue → Type 0) → MissionValue → BusValue →
+    WorldValue → BusValue →
     Option GateValue → Log → Histories → Type 0
 IsDriven None may M start w bus gate F histories = IsBetween may M start w bus F F histories × (gate ≡ None)
 IsDriven (Some a) may M start w bus gate F histories =
@@ -82,7 +83,8 @@ told_text (Some a) trace M F histories = acted_report trace M a F histories
 -- the short text of a run up to its first stop, with only the last k of its cycles' parts
 abbrev pub short_told : ℕ → Option ActuatorValue → Bool → MissionValue → Log → Histories → TextValue
 short_told k None trace M F histories = short_text k trace M F histories
-short_told k (Some a) trace M F histories = text_of_parts (shortened k (acted_run_parts trace M a F histories (acted_cycles M F)))
+short_told k (Some a) trace M F histories =
+    text_of_parts (shortened k (acted_run_parts trace M a F histories (acted_cycles M F)))
 
 -- the texts of the last k of n cycles, or of all where they are fewer
 abbrev pub last_told : ℕ → Option ActuatorValue → Bool → MissionValue → Log → Histories → ℕ → List TextValue
@@ -97,7 +99,8 @@ with_words (Some gate) part = part ++ out_line gate.words ∷ []
 
 -- how a run halts where its actuator's words did not move
 abbrev pub exchange_halt : RecordValue → OutStop → HaltValue
-exchange_halt part (out.Disturbed set) = disturbed (record { cycle = part.cycle; slot = Output; set = set; active = part.active })
+exchange_halt part (out.Disturbed set) =
+    disturbed (record { cycle = part.cycle; slot = Output; set = set; active = part.active })
 exchange_halt part out.NoMemory = no_memory
 
 -- what an exchange ends with
@@ -106,28 +109,34 @@ exchange_end part (Ok _) = Ok tt
 exchange_end part (Err stop) = Err (exchange_halt part stop)
 
 -- the exchange of a finished cycle with this record, by what is known of it: with no gate there is none
-abbrev pub Exchanged : (List RuleValue → EntryValue → Type 0) → ℕ → RecordValue → Option SettledValue → BusValue → BusValue →
+abbrev pub Exchanged : (List RuleValue → EntryValue → Type 0) → ℕ → RecordValue → Option SettledValue → BusValue →
+    BusValue →
     Option GateValue → Option GateValue → Result (Unit {0}) HaltValue → Type 0
-Exchanged may version part settled bus after None gate_after result = (gate_after ≡ None) × (after ≡ bus) × (result ≡ Ok tt)
+Exchanged may version part settled bus after None gate_after result = (gate_after ≡ None) × (after ≡ bus)
+    × (result ≡ Ok tt)
 Exchanged may version part settled bus after (Some gate) gate_after result =
     (s : SettledValue) × (settled ≡ Some s) × (g : GateValue) × (gate_after ≡ Some g) × (after.script ≡ bus.script)
-    × (r : Result (Unit {0}) OutStop) × Exchanges may bus.script version part s bus.log after.log gate g r × (result ≡ exchange_end part r)
+    × (r : Result (Unit {0}) OutStop) × Exchanges may bus.script version part s bus.log after.log gate g r
+    × (result ≡ exchange_end part r)
 
 -- the answer of a cycle whose exchange ended so
 abbrev pub with_part : RecordValue → Result (Unit {0}) HaltValue → Result RecordValue HaltValue
 with_part part (Ok _) = Ok part
 with_part part (Err halt) = Err halt
 
--- What the next cycle of a run does with its exchange, by the answer: the run goes on by the cycle, which its record and
--- the gate's words tell; or it stops, or breaks off. The parts of the earlier cycles stay.
-abbrev pub Drives : Option ActuatorValue → (List RuleValue → EntryValue → Type 0) → MissionValue → BusValue → WorldValue → Log → Histories →
+-- What the next cycle of a run does with its exchange, by the answer: the run goes on by the cycle, which its record
+-- and the gate's words tell; or it stops, or breaks off. The parts of the earlier cycles stay.
+abbrev pub Drives : Option ActuatorValue → (List RuleValue → EntryValue → Type 0) → MissionValue → BusValue →
+    WorldValue → Log → Histories →
     Result RecordValue HaltValue → WorldValue → BusValue → Option GateValue → Type 0
 Drives o may M start w F histories (Ok part) new after gate =
     (G : Log) × (more : Histories) × IsDriven o may M start new after gate G more × (new.done ≡ suc w.done)
     × ((trace : Bool) → parts_told o trace M G more (suc w.done)
-    ≡ parts_told o trace M F histories w.done ++ with_words gate (cycle_part trace (shown M.rules.channels M.width (length M.outputs) part)) ∷ [])
+    ≡ parts_told o trace M F histories w.done
+    ++ with_words gate (cycle_part trace (shown M.rules.channels M.width (length M.outputs) part)) ∷ [])
 Drives o may M start w F histories (Err (disturbed stop)) new after gate =
-    (G : Log) × HasCarried may M start after G × RunStopped o M w.done stop G histories × RunBroken o M w.done G histories
+    (G : Log) × HasCarried may M start after G × RunStopped o M w.done stop G histories
+    × RunBroken o M w.done G histories
     × ((trace : Bool) → parts_told o trace M G histories w.done ≡ parts_told o trace M F histories w.done)
 Drives o may M start w F histories (Err no_memory) new after gate =
     (G : Log) × HasCarried may M start after G × RunBroken o M w.done G histories

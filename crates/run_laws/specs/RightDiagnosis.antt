@@ -10,11 +10,12 @@ use Rattle.recovery_laws.specs.LeastPeriods.{KeepsFromLeastPeriod}
 use Rattle.recovery_laws.specs.WrongVotes.{VotesWrong, IsJudgedByVote}
 use Rattle.recovery_laws.specs.Lengths.{TakeLength}
 
--- What a cycle makes of the vote that a channel cast in the one before: who is judged is told by who counts against it, and a
--- damaged channel of which all others have a wrong ballot, or none, is judged.
+-- What a cycle makes of the vote that a channel cast in the one before: who is judged is told by who counts against it,
+-- and a damaged channel of which all others have a wrong ballot, or none, is judged.
 pub record JudgesVote (M : MissionValue) (past : Past) (before e : Cycle) (q : Channel) : Type 0 where
   pub exactly : IsJudgedByVote M past before e q
-  pub damaged : IsTrue (has before.active q) → IsTrue (has e.active q) → IsTrue (has before.damaged q) → VotesWrong M past before q →
+  pub damaged : IsTrue (has before.active q) → IsTrue (has e.active q) → IsTrue (has before.damaged q) →
+      VotesWrong M past before q →
       IsTrue (has e.judged q)
 
 abbrev pub JudgesVotes : MissionValue → Past → Cycle → Type 0

@@ -21,8 +21,8 @@ use Rattle.world_laws.specs.Fronts.{IsUpToStop}
 
 -- ---- on the bus
 
--- The entries of some cycles, the latest of which stands first: those of each are made by the steps beside it, and the steps
--- of each channel that worked in it are full.
+-- The entries of some cycles, the latest of which stands first: those of each are made by the steps beside it, and the
+-- steps of each channel that worked in it are full.
 abbrev pub AreDueBy : MissionValue → Histories → Past → Log → Type 0
 AreDueBy M histories [] entries = entries ≡ []
 AreDueBy M histories (e ∷ past) entries =
@@ -30,13 +30,14 @@ AreDueBy M histories (e ∷ past) entries =
     × AreMadeBy M (latest_steps histories) past e now × AreFull M past e (latest_steps histories)
 
 -- The bus has the mission's rules, and its log grew by these entries, each as the bus may.
-pub record HasCarried (may : List RuleValue → EntryValue → Type 0) (M : MissionValue) (old new : BusValue) (L : Log) : Type 0 where
+pub record HasCarried (may : List RuleValue → EntryValue → Type 0) (M : MissionValue) (old new : BusValue)
+    (L : Log) : Type 0 where
   pub log : new.log ≡ old.log ++ L
   pub script : new.script ≡ bus_rules M
   pub each : AllByRecursion (may (bus_rules M)) L
 
--- The first n cycles of the mission ran, none of them stopped, and L has their due entries and no others. Histories stand
--- beside the cycles. So the cycles are sound: agreement, restoration and joins.
+-- The first n cycles of the mission ran, none of them stopped, and L has their due entries and no others. Histories
+-- stand beside the cycles. So the cycles are sound: agreement, restoration and joins.
 pub record HasRunCycles (M : MissionValue) (n : ℕ) (L : Log) (histories : Histories) : Type 0 where
   pub within : n ≤ M.cycles
   pub beside : length histories ≡ n
@@ -53,15 +54,16 @@ pub record HasRunToStop (M : MissionValue) (n : ℕ) (stop : StopValue) (L : Log
   pub entries : L ≡ before ++ now
   pub due : AreDueBy M histories (cycles_before M L n) before
   pub steps : Steps
-  pub due_now : AllZip (λ carry entry. IsMadeBy M (cycles_before M L n) (cycle_at M L n) (steps_of steps carry.from) carry entry)
+  pub due_now : AllZip (λ carry entry.
+      IsMadeBy M (cycles_before M L n) (cycle_at M L n) (steps_of steps carry.from) carry entry)
       (carries_through n (cycle_at M L n) stop.slot) now
   pub full : slot_index Tasks < slot_index stop.slot → AreFull M (cycles_before M L n) (cycle_at M L n) steps
   pub unstopped : stop_of (cycles_before M L n) ≡ None
   pub stopped : stop_in n (cycle_at M L n) ≡ Some stop
   pub sound : IsSound M L n
 
--- The first n cycles ran, and of the next one's due entries the first few were carried: of a cycle that the mission has, and none
--- after the slot that stops the run.
+-- The first n cycles ran, and of the next one's due entries the first few were carried: of a cycle that the mission
+-- has, and none after the slot that stops the run.
 pub record HasRunPart (M : MissionValue) (n : ℕ) (L : Log) (histories : Histories) : Type 0 where
   pub within : n ≤ M.cycles
   pub beside : length histories ≡ n
@@ -69,15 +71,17 @@ pub record HasRunPart (M : MissionValue) (n : ℕ) (L : Log) (histories : Histor
   pub now : Log
   pub entries : L ≡ before ++ now
   pub due : AreDueBy M histories (cycles_before M L n) before
-  pub due_now : AllZip (IsDue M (cycles_before M L n) (cycle_at M L n)) (take (length now) (cycle_carries n (cycle_at M L n))) now
+  pub due_now : AllZip (IsDue M (cycles_before M L n) (cycle_at M L n))
+      (take (length now) (cycle_carries n (cycle_at M L n))) now
   pub left : 0 < length now → n < M.cycles
   pub up_to_stop : IsUpToStop M before now n
   pub unstopped : stop_of (cycles_before M L n) ≡ None
   pub sound : IsSound M L n
 
--- Between two cycles of a run that began with this bus: what the log grew by, F, stands for the world without its output
--- entries. L is that list.
-pub record IsBetween (may : List RuleValue → EntryValue → Type 0) (M : MissionValue) (start : BusValue) (w : WorldValue) (bus : BusValue)
+-- Between two cycles of a run that began with this bus: what the log grew by, F, stands for the world without its
+-- output entries. L is that list.
+pub record IsBetween (may : List RuleValue → EntryValue → Type 0) (M : MissionValue) (start : BusValue) (w : WorldValue)
+    (bus : BusValue)
     (F L : Log) (histories : Histories) : Type 0 where
   pub mission : w.mission ≡ M
   pub unspent : w.spent ≡ None
@@ -87,18 +91,23 @@ pub record IsBetween (may : List RuleValue → EntryValue → Type 0) (M : Missi
   pub beside : length histories ≡ w.done
   pub due : AreDueBy M histories (cycles_before M L w.done) L
 
--- What the next cycle of a run does, by its answer: the run goes on by the cycle and its record tells it, the cycle stops
--- the run, or it breaks the run off. The facts of the earlier cycles stay.
-abbrev pub PassesOn : (List RuleValue → EntryValue → Type 0) → MissionValue → BusValue → WorldValue → Log → Log → Histories →
+-- What the next cycle of a run does, by its answer: the run goes on by the cycle and its record tells it, the cycle
+-- stops the run, or it breaks the run off. The facts of the earlier cycles stay.
+abbrev pub PassesOn : (List RuleValue → EntryValue → Type 0) → MissionValue → BusValue → WorldValue → Log → Log →
+    Histories →
     Result RecordValue HaltValue → WorldValue → BusValue → Type 0
 PassesOn may M start w F earlier histories (Ok part) new bus =
-    (current : Log) × (steps : Steps) × IsBetween may M start new bus (F ++ current) (earlier ++ current) (steps ∷ histories) × (new.done ≡ suc w.done)
+    (current : Log) × (steps : Steps)
+    × IsBetween may M start new bus (F ++ current) (earlier ++ current) (steps ∷ histories)
+    × (new.done ≡ suc w.done)
     × AreMadeBy M steps (cycles_before M (earlier ++ current) w.done) (cycle_at M (earlier ++ current) w.done) current
     × AreFull M (cycles_before M (earlier ++ current) w.done) (cycle_at M (earlier ++ current) w.done) steps
     × (cycles_before M (earlier ++ current) w.done ≡ cycles_before M earlier w.done)
-    × (shown M.rules.channels M.width (length M.outputs) part ≡ cycle_record M steps w.done (cycle_at M (earlier ++ current) w.done))
+    × (shown M.rules.channels M.width (length M.outputs) part
+    ≡ cycle_record M steps w.done (cycle_at M (earlier ++ current) w.done))
 PassesOn may M start w F earlier histories (Err (disturbed stop)) new bus =
-    (current : Log) × HasCarried may M start bus (F ++ current) × HasRunToStop M w.done stop (earlier ++ current) histories
+    (current : Log) × HasCarried may M start bus (F ++ current)
+    × HasRunToStop M w.done stop (earlier ++ current) histories
     × (cycles_before M (earlier ++ current) w.done ≡ cycles_before M earlier w.done)
 PassesOn may M start w F earlier histories (Err no_memory) new bus =
     (current : Log) × HasCarried may M start bus (F ++ current) × HasRunPart M w.done (earlier ++ current) histories
@@ -108,7 +117,8 @@ PassesOn may M start w F earlier histories (Err no_memory) new bus =
 
 -- the head line and the parts of some cycles
 abbrev pub parts_so_far : Bool → MissionValue → Histories → Past → List Part
-parts_so_far trace M histories cycles = (head_line M.rules.channels M.cycles ∷ []) ∷ cycle_parts trace M histories cycles
+parts_so_far trace M histories cycles =
+    (head_line M.rules.channels M.cycles ∷ []) ∷ cycle_parts trace M histories cycles
 
 -- the text of a run up to its first stop: the report, or with the trace lines of the histories beside all its cycles
 abbrev pub run_text : Bool → MissionValue → Log → Histories → TextValue

@@ -22,10 +22,12 @@ removals_in (e ∷ past) = removals_in past + length e.removed
 -- the votes of the lowest channel that runs at the end of the last of them; none where there is no such channel
 abbrev pub last_votes : Past → List (Option ℤ)
 last_votes [] = []
-last_votes (e ∷ past) = unwrap_or (option_map (λ p. place_or e.voted p []) (slice_get (channels_running_in Switch e) 0)) []
+last_votes (e ∷ past) = unwrap_or (option_map (λ p. place_or e.voted p []) (slice_get (channels_running_in Switch e) 0))
+    []
 
 -- the summary of the run of the demo mission of a number
 unfoldable pub summary : ℕ → MissionValue → Log → TextValue
 summary number M L =
-    part_text (summary_part number (joins_in (cycles_before M L M.cycles)) (removals_in (cycles_before M L M.cycles)) (length L)
+    part_text (summary_part number (joins_in (cycles_before M L M.cycles)) (removals_in (cycles_before M L M.cycles))
+    (length L)
     (last_votes (cycles_before M L M.cycles)))

@@ -11,8 +11,8 @@ ghost use Rattle.guards_runs.specs.Report.{cycle_record};
 ghost use Rattle.output_gate.specs.Exchanging.{MayExchange, VoteFor};
 ghost use Rattle.guards_runs.specs.Disturbed.{settled_of};
 
-/// The record of a cycle in which all agree may be exchanged with an actuator, and its lines vote for the output words of
-/// the ideal context.
+/// The record of a cycle in which all agree may be exchanged with an actuator, and its lines vote for the output words
+/// of the ideal context.
 pub fn cycles_may_exchange()
     ensures allowed { (M : MissionValue) (steps : Steps) (past : Past) (e : Cycle) (part : RecordValue) → IsMission M →
         is_set e.active ≡ true → Agrees M past e →

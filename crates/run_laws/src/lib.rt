@@ -1,6 +1,6 @@
 //! Laws of whole runs: how cycles make them, with an actuator and without one, what they tell, that over a scripted bus
-//! their text is a function of their mission, and that they diagnose rightly. Each is the contract of a function without
-//! a body.
+//! their text is a function of their mission, and that they diagnose rightly. Each is the contract of a function
+//! without a body.
 #![tactic(auto)]
 
 mod diagnosed;
@@ -35,18 +35,20 @@ pub fn runs_begin<B: Bus>()
         IsBetween B.may M bus (first_world M) bus [] [] [] }
 {}
 
-/// A cycle of the world goes on with the run, stops it, or breaks it off; where memory runs out, nothing was carried after a slot
-/// that stops the run.
+/// A cycle of the world goes on with the run, stops it, or breaks it off; where memory runs out, nothing was carried
+/// after a slot that stops the run.
 pub fn cycles_pass_on<B: Bus>()
     ensures { (M : MissionValue) (start bus : BusValue) (w : WorldValue) (F L : Log)
         (histories : Histories) (result : Result RecordValue HaltValue) (new : WorldValue) (after : BusValue) →
-        IsBetween B.may M start w bus F L histories → w.done < w.mission.cycles → PassesCycle B.may w.spent w bus result new after →
+        IsBetween B.may M start w bus F L histories → w.done < w.mission.cycles →
+        PassesCycle B.may w.spent w bus result new after →
         CarriesUpToStop w bus result after → PassesOn B.may M start w F L histories result new after }
 {}
 
 /// Output entries leave a run where it is.
 pub fn outputs_leave<B: Bus>()
-    ensures { (M : MissionValue) (start : BusValue) (w : WorldValue) (bus after : BusValue) (F L outs : Log) (histories : Histories) →
+    ensures { (M : MissionValue) (start : BusValue) (w : WorldValue) (bus after : BusValue) (F L outs : Log)
+        (histories : Histories) →
         IsBetween B.may M start w bus F L histories → Carries B.may bus after outs → without_outputs outs ≡ [] →
         IsBetween B.may M start w after (F ++ outs) L histories }
 {}
@@ -59,24 +61,29 @@ pub fn cycles_ran<B: Bus>()
         HasRunToStop M n stop L histories → HasRunPart M n L histories }
 {}
 
-/// The text of a run that stopped nowhere is the head line, the parts of its cycles and the last line; where it stopped, it
-/// is the parts of the cycles before, and the line of the stop.
+/// The text of a run that stopped nowhere is the head line, the parts of its cycles and the last line; where it
+/// stopped, it is the parts of the cycles before, and the line of the stop.
 pub fn runs_are_told()
-    ensures whole { (trace : Bool) (M : MissionValue) (L : Log) (histories : Histories) → stop_of (cycles_before M L M.cycles) ≡ None →
-        run_text trace M L histories ≡ text_of_parts (parts_so_far trace M histories (cycles_before M L M.cycles)) ++ done_line M.cycles }
-    ensures stopped { (trace : Bool) (M : MissionValue) (L : Log) (histories : Histories) (n : ℕ) (stop : StopValue) → n < M.cycles →
+    ensures whole { (trace : Bool) (M : MissionValue) (L : Log) (histories : Histories) →
+        stop_of (cycles_before M L M.cycles) ≡ None →
+        run_text trace M L histories
+        ≡ text_of_parts (parts_so_far trace M histories (cycles_before M L M.cycles)) ++ done_line M.cycles }
+    ensures stopped { (trace : Bool) (M : MissionValue) (L : Log) (histories : Histories) (n : ℕ) (stop : StopValue) →
+        n < M.cycles →
         stop_of (cycles_before M L n) ≡ None → stop_in n (cycle_at M L n) ≡ Some stop →
         run_text trace M L (with_unfinished (M.cycles - n) histories)
         ≡ text_of_parts (parts_so_far trace M histories (cycles_before M L n)) ++ stop_line stop }
 {}
 
-/// The short text of a run that stopped nowhere is the head line, the parts of its last k cycles and the last line; where it
-/// stopped, it is the head line, the parts of the last k cycles before, and the line of the stop.
+/// The short text of a run that stopped nowhere is the head line, the parts of its last k cycles and the last line;
+/// where it stopped, it is the head line, the parts of the last k cycles before, and the line of the stop.
 pub fn short_runs_are_told()
-    ensures whole { (k : ℕ) (trace : Bool) (M : MissionValue) (L : Log) (histories : Histories) → stop_of (cycles_before M L M.cycles) ≡ None →
+    ensures whole { (k : ℕ) (trace : Bool) (M : MissionValue) (L : Log) (histories : Histories) →
+        stop_of (cycles_before M L M.cycles) ≡ None →
         short_text k trace M L histories
         ≡ with_head M (last_texts k trace M histories (cycles_before M L M.cycles)) ++ done_line M.cycles }
-    ensures stopped { (k : ℕ) (trace : Bool) (M : MissionValue) (L : Log) (histories : Histories) (n : ℕ) (stop : StopValue) → n < M.cycles →
+    ensures stopped { (k : ℕ) (trace : Bool) (M : MissionValue) (L : Log) (histories : Histories) (n : ℕ)
+        (stop : StopValue) → n < M.cycles →
         stop_of (cycles_before M L n) ≡ None → stop_in n (cycle_at M L n) ≡ Some stop →
         short_text k trace M L (with_unfinished (M.cycles - n) histories)
         ≡ with_head M (last_texts k trace M histories (cycles_before M L n)) ++ stop_line stop }

@@ -103,7 +103,8 @@ fn a_line_that_does_not_fit_is_found(rt: HostRuntime) -> Result<(), Fail> {
     Ok(())
 }
 
-// The line that is not good of the text of a traced run: 0 where the run came to its end, and that of its stop otherwise.
+// The line that is not good of the text of a traced run: 0 where the run came to its end, and that of its stop
+// otherwise.
 fn stop_line(ended: &Ended) -> u32 {
     let mut lines: u32 = 0;
     if ended.status != 0 {

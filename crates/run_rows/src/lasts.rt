@@ -6,8 +6,8 @@ use std::test::Fail;
 use std::thread::Threads;
 use worked_missions::{SUM, changed, unfolded};
 
-// The words; the cycle in whose votes two of four channels crash; the call of the sink that fails; the status, and how many
-// entries are carried. Below stands what is written. A line of several channels stands for one of each.
+// The words; the cycle in whose votes two of four channels crash; the call of the sink that fails; the status, and how
+// many entries are carried. Below stands what is written. A line of several channels stands for one of each.
 const WORKED: &str = "run --last 1|-|-|0|80
 guards channels 4 cycles 2
 cycle 1 active 0,1,2,3 transfer -
@@ -66,8 +66,8 @@ ch 0,1,2,3 in 5 vote 5 judged - alpha 0,0,0,0
 end removed - joined - remaining -
 ";
 
-// The words of a run of four cycles and of the same run with its last cycles alone, and how many these are; the cycle in whose
-// votes two channels crash; the call of the sink that fails.
+// The words of a run of four cycles and of the same run with its last cycles alone, and how many these are; the cycle
+// in whose votes two channels crash; the call of the sink that fails.
 const SHORTENED: &str = "run|run --last 1|1|-|-
 run|run --last 3|3|-|-
 run|run --last 4|4|-|-

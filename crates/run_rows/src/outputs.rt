@@ -94,8 +94,9 @@ end removed - joined - remaining -
 out 3
 ";
 
-// What happens in the output slot to the frame of one of four channels, so that the text stays: it is lost, or another one
-// arrives, with another word, of another cycle, of another channel, with another number of words, or what is no frame.
+// What happens in the output slot to the frame of one of four channels, so that the text stays: it is lost, or another
+// one arrives, with another word, of another cycle, of another channel, with another number of words, or what is no
+// frame.
 const OUTVOTED: &str = "kind = 'lose'
 kind = 'lose', to = 8
 kind = 'forge', bytes = '4701030100000000010000000000000009'
@@ -124,7 +125,8 @@ fn outputs_of(alloc: Global, faults: &str) -> Result<String, AllocError> {
     }
 }
 
-// The mission with so many channels and these faults. One change at a time, since an array has one lifetime for all its texts.
+// The mission with so many channels and these faults. One change at a time, since an array has one lifetime for all its
+// texts.
 fn mission_of(alloc: Global, channels: &str, faults: &str) -> Result<String, AllocError> {
     let many = format!(in alloc; "channels = {channels}")?;
     let counted = changed(alloc, SUM, &[("channels = 4", many.as_str())])?;

@@ -43,16 +43,20 @@ as_sent e h = ap (differs_from e.sent) h ∙ ap not ((bytes_eq-Decides e.sent e.
 off : (a : Bool) → (a && false) ≡ false
 off a = grind arith
 
-charged_none : (F : Log) (c : ℕ) (q : Channel) → AllByRecursion (IsScripted []) F → list_any (is_output_charge c q) F ≡ false
+charged_none : (F : Log) (c : ℕ) (q : Channel) → AllByRecursion (IsScripted []) F →
+    list_any (is_output_charge c q) F ≡ false
 charged_none [] c q h = refl
 charged_none (y ∷ F) c q h =
     let fine : is_output_charge c q y ≡ false =
-    ap (λ b. ((y.cycle == c && same_slot y.slot Output) && y.from == q) && b) (as_sent y h.0) ∙ off ((y.cycle == c && same_slot y.slot Output) && y.from == q) in
+    ap (λ b. ((y.cycle == c && same_slot y.slot Output) && y.from == q) && b) (as_sent y h.0)
+    ∙ off ((y.cycle == c && same_slot y.slot Output) && y.from == q) in
     ap (λ b. b || list_any (is_output_charge c q) F) fine ∙ charged_none F c q h.1
 
-pub none_charged : (M : MissionValue) (F : Log) (c : ℕ) (q : Channel) → list_all is_harmless M.script ≡ true → AllByRecursion (IsScripted (bus_rules M)) F → list_any (is_output_charge c q) F ≡ false
+pub none_charged : (M : MissionValue) (F : Log) (c : ℕ) (q : Channel) → list_all is_harmless M.script ≡ true →
+    AllByRecursion (IsScripted (bus_rules M)) F → list_any (is_output_charge c q) F ≡ false
 none_charged M F c q harmless scripted =
-    charged_none F c q (subst (λ (rules : List RuleValue). AllByRecursion (IsScripted rules) F) (no_rule M.script harmless) scripted)
+    charged_none F c q (subst (λ (rules : List RuleValue). AllByRecursion (IsScripted rules) F)
+    (no_rule M.script harmless) scripted)
 
 -- ---- the text
 
@@ -64,14 +68,17 @@ part_and_line (x ∷ p) line = ap (λ text. x ++ text) (part_and_line p line) �
 module _ (M : MissionValue) (a : ActuatorValue) (F L : Log) (mission : IsMission M) (faultless : IsFaultless M L)
     (words : (c : ℕ) → c ≤ M.cycles → words_after M a F c ≡ ideal_outputs M a.steps a.start L c) where
   -- the words are those of the machine
-  machine : (n : ℕ) → n ≤ M.cycles → EachCycle (IsDueNow M) (cycles_before M L n) → ideal_outputs M a.steps a.start L n ≡ machine_words M a n
+  machine : (n : ℕ) → n ≤ M.cycles → EachCycle (IsDueNow M) (cycles_before M L n) →
+      ideal_outputs M a.steps a.start L n ≡ machine_words M a n
   machine zero early due = refl
   machine (suc n) early due =
       let told : TellsIdeal M L mission faultless (suc n) = tells M L mission faultless (suc n) early due in
-      ap (λ last. words_towards a.steps last (output_words M (cycle_at M L n).ideal_context)) (machine n (omega (arith, early)) due.1)
+      ap (λ last. words_towards a.steps last (output_words M (cycle_at M L n).ideal_context))
+      (machine n (omega (arith, early)) due.1)
       ∙ ap (λ ctx. words_towards a.steps (machine_words M a n) (output_words M ctx)) told.context
 
-  acted_tells : (n : ℕ) → n ≤ M.cycles → EachCycle (IsDueNow M) (cycles_before M L n) → text_of_parts (acted_parts false M a F [] (cycles_before M L n)) ≡ acted_parts_below M a n
+  acted_tells : (n : ℕ) → n ≤ M.cycles → EachCycle (IsDueNow M) (cycles_before M L n) →
+      text_of_parts (acted_parts false M a F [] (cycles_before M L n)) ≡ acted_parts_below M a n
   acted_tells zero early due = refl
   acted_tells (suc n) early due =
       let past = cycles_before M L n in
@@ -80,7 +87,8 @@ module _ (M : MissionValue) (a : ActuatorValue) (F L : Log) (mission : IsMission
       let bare : Part = cycle_part false (cycle_record M [] (length past) (next_cycle M L past)) in
       let line = out_line (words_after M a F (suc (length past))) in
       let these : words_after M a F (suc (length past)) ≡ machine_words M a (suc n) =
-      ap (λ k. words_after M a F (suc k)) (length-cycles_before M L n) ∙ words (suc n) early ∙ machine (suc n) early due in
+      ap (λ k. words_after M a F (suc k)) (length-cycles_before M L n) ∙ words (suc n) early
+      ∙ machine (suc n) early due in
       flat_map-append part_text (acted_parts false M a F [] past) ((bare ++ line ∷ []) ∷ [])
       ∙ ap (λ front. front ++ (part_text (bare ++ line ∷ []) ++ [])) (acted_tells n (omega (arith, early)) due.1)
       ∙ ap (λ text. acted_parts_below M a n ++ text)
@@ -88,7 +96,9 @@ module _ (M : MissionValue) (a : ActuatorValue) (F L : Log) (mission : IsMission
       ∙ ap (λ text. text ++ line) (part_is M L mission faultless n run due.0 early before.context)
       ∙ ap (λ (ws : List ℤ). part M n ++ out_line ws) these)
 
-  pub whole_is : HasDue M L M.cycles → text_of_parts ((head_line M.rules.channels M.cycles ∷ []) ∷ acted_parts false M a F [] (cycles_before M L M.cycles)) ++ done_line M.cycles ≡ ideal_report_with (Some a) M
+  pub whole_is : HasDue M L M.cycles →
+      text_of_parts ((head_line M.rules.channels M.cycles ∷ [])
+      ∷ acted_parts false M a F [] (cycles_before M L M.cycles)) ++ done_line M.cycles ≡ ideal_report_with (Some a) M
   unfolding head last
   whole_is due =
       let first = head_line M.rules.channels M.cycles in

@@ -22,7 +22,8 @@ use Rattle.guards_laws.proofs.CycleParts.{by_channel-same}
 use Rattle.script_laws.proofs.SamePast.{same_size, same_opening, same_source, same_plan, same_ideal, same_remaining}
 
 module _ (M : MissionValue) (E D : Log) (P R : Past) (same : HaveSameFacts P R)
-    (got : (slot : Slot) → on_bus slot ≡ true → (from to : ℕ) → received_body M E (length P) slot from to ≡ received_body M D (length R) slot from to) where
+    (got : (slot : Slot) → on_bus slot ≡ true → (from to : ℕ) →
+    received_body M E (length P) slot from to ≡ received_body M D (length R) slot from to) where
   abbrev e : Cycle
   e = cycle_from M E P
 
@@ -34,14 +35,18 @@ module _ (M : MissionValue) (E D : Log) (P R : Past) (same : HaveSameFacts P R)
   same_start = same_opening P R same M
 
   table_same : (slot : Slot) → on_bus slot ≡ true → (p : Channel) →
-      by_channel (λ j. items_of (received_body M E (length P) slot j p)) ≡ by_channel (λ j. items_of (received_body M D (length R) slot j p))
+      by_channel (λ j. items_of (received_body M E (length P) slot j p))
+      ≡ by_channel (λ j. items_of (received_body M D (length R) slot j p))
   table_same slot on p =
-      by_channel-same (λ j. items_of (received_body M E (length P) slot j p)) (λ j. items_of (received_body M D (length R) slot j p)) (λ j low. ap items_of (got slot on j p))
+      by_channel-same (λ j. items_of (received_body M E (length P) slot j p))
+      (λ j. items_of (received_body M D (length R) slot j p)) (λ j low. ap items_of (got slot on j p))
 
   items_same : (p : Channel) → received_items M E (length P) p ≡ received_items M D (length R) p
   items_same p =
-      let T : Slot → List (List ItemValue) = λ slot. by_channel (λ j. items_of (received_body M E (length P) slot j p)) in
-      let U : Slot → List (List ItemValue) = λ slot. by_channel (λ j. items_of (received_body M D (length R) slot j p)) in
+      let T : Slot → List (List ItemValue) =
+      λ slot. by_channel (λ j. items_of (received_body M E (length P) slot j p)) in
+      let U : Slot → List (List ItemValue) =
+      λ slot. by_channel (λ j. items_of (received_body M D (length R) slot j p)) in
       ap (λ t. t ∷ T Round2 ∷ T Round3 ∷ []) (table_same Round1 refl p)
       ∙ ap (λ t. U Round1 ∷ t ∷ T Round3 ∷ []) (table_same Round2 refl p)
       ∙ ap (λ t. U Round1 ∷ U Round2 ∷ t ∷ []) (table_same Round3 refl p)
@@ -64,7 +69,8 @@ module _ (M : MissionValue) (E D : Log) (P R : Past) (same : HaveSameFacts P R)
   same_agreement =
       agreement_e
       ∙ ap (λ o. agreement_with o (source_word M P) (received_items M E (length P))) same_start
-      ∙ ap (λ (own : Channel → SourceValue). agreement_with d.opening own (received_items M E (length P))) (fun_ext (same_source P R same M))
+      ∙ ap (λ (own : Channel → SourceValue). agreement_with d.opening own (received_items M E (length P)))
+      (fun_ext (same_source P R same M))
       ∙ ap (agreement_with d.opening (source_word M R)) (fun_ext items_same)
       ∙ sym agreement_d
 
@@ -72,8 +78,15 @@ module _ (M : MissionValue) (E D : Log) (P R : Past) (same : HaveSameFacts P R)
   decision_with c o agreed plans =
       let judged : ChannelSet = judged_of o.active agreed in
       let counts : List ℕ = counts_of M.rules.law M.rules.keep M.rules.decrement o.active judged o.counts_before in
-      let transfer : Option TransferValue = transfer_after M.rules.channels M.rules.returning o.active o.fresh agreed c o.running in
-      record { judged = judged; counts = counts; removed = removed_of M.rules.threshold o.active o.fresh agreed counts; transfer = transfer; planned = plans transfer }
+      let transfer : Option TransferValue =
+      transfer_after M.rules.channels M.rules.returning o.active o.fresh agreed c o.running in
+      record {
+        judged = judged;
+        counts = counts;
+        removed = removed_of M.rules.threshold o.active o.fresh agreed counts;
+        transfer = transfer;
+        planned = plans transfer;
+      }
 
   decision_e : e.decision ≡ decision_with (length P) e.opening e.agreed (plan_of M P)
   unfolding cycle_from decision_of
@@ -89,15 +102,19 @@ module _ (M : MissionValue) (E D : Log) (P R : Past) (same : HaveSameFacts P R)
       ∙ ap (λ c. decision_with c e.opening e.agreed (plan_of M P)) (same_size P R same)
       ∙ ap (λ o. decision_with (length R) o e.agreed (plan_of M P)) same_start
       ∙ ap (λ (a : Agreement). decision_with (length R) d.opening a.agreed (plan_of M P)) same_agreement
-      ∙ ap (λ (plans : Option TransferValue → List ℕ). decision_with (length R) d.opening d.agreed plans) (fun_ext (same_plan P R same M))
+      ∙ ap (λ (plans : Option TransferValue → List ℕ). decision_with (length R) d.opening d.agreed plans)
+      (fun_ext (same_plan P R same M))
       ∙ sym decision_d
 
-  abbrev work_with : ℕ → CycleStart → List ℤ → DecisionValue → ContextValue → (Option TransferValue → List ℕ → List ℕ) → (Channel → Channel → Option BodyValue) → (Channel → Channel → Option BodyValue) → CycleResult
+  abbrev work_with : ℕ → CycleStart → List ℤ → DecisionValue → ContextValue → (Option TransferValue → List ℕ → List ℕ) →
+      (Channel → Channel → Option BodyValue) → (Channel → Channel → Option BodyValue) → CycleResult
   work_with c o inputs k ideal rest requests votes =
       let work : ContextValue → ContextValue = λ ctx. whole (cycle_writes M c) ctx c inputs in
       let held : List (Option ContextValue) = map (option_map work) o.contexts_before in
       let ballots : List Ballots =
-      by_channel (λ p. if has o.active p then by_channel (λ j. if j == p then option_map (output_words M) (place_or held p None) else ballot_of (votes j p)) else []) in
+      by_channel (λ p. if has o.active p
+      then by_channel (λ j. if j == p then option_map (output_words M) (place_or held p None)
+      else ballot_of (votes j p)) else []) in
       let voted : List (List (Option ℤ)) = map (vote_of o.active (length M.outputs)) ballots in
       let remaining_blocks : List ℕ = rest k.transfer k.planned in
       record {
@@ -110,11 +127,13 @@ module _ (M : MissionValue) (E D : Log) (P R : Past) (same : HaveSameFacts P R)
         joined = joined_of M.rules.last k.transfer remaining_blocks;
       }
 
-  work_e : e.work ≡ work_with (length P) e.opening e.inputs e.decision (ideal_after M P) (remaining_of M P) (received_body M E (length P) Request) (received_body M E (length P) Vote)
+  work_e : e.work ≡ work_with (length P) e.opening e.inputs e.decision (ideal_after M P) (remaining_of M P)
+      (received_body M E (length P) Request) (received_body M E (length P) Vote)
   unfolding cycle_from work_of
   work_e = refl
 
-  work_d : d.work ≡ work_with (length R) d.opening d.inputs d.decision (ideal_after M R) (remaining_of M R) (received_body M D (length R) Request) (received_body M D (length R) Vote)
+  work_d : d.work ≡ work_with (length R) d.opening d.inputs d.decision (ideal_after M R) (remaining_of M R)
+      (received_body M D (length R) Request) (received_body M D (length R) Vote)
   unfolding cycle_from work_of
   work_d = refl
 
@@ -124,23 +143,32 @@ module _ (M : MissionValue) (E D : Log) (P R : Past) (same : HaveSameFacts P R)
       let requests_d : Channel → Channel → Option BodyValue = received_body M D (length R) Request in
       let votes_e : Channel → Channel → Option BodyValue = received_body M E (length P) Vote in
       work_e
-      ∙ ap (λ c. work_with c e.opening e.inputs e.decision (ideal_after M P) (remaining_of M P) requests_e votes_e) (same_size P R same)
-      ∙ ap (λ o. work_with (length R) o e.inputs e.decision (ideal_after M P) (remaining_of M P) requests_e votes_e) same_start
-      ∙ ap (λ (a : Agreement). work_with (length R) d.opening a.inputs e.decision (ideal_after M P) (remaining_of M P) requests_e votes_e) same_agreement
-      ∙ ap (λ k. work_with (length R) d.opening d.inputs k (ideal_after M P) (remaining_of M P) requests_e votes_e) same_decision
-      ∙ ap (λ ctx. work_with (length R) d.opening d.inputs d.decision ctx (remaining_of M P) requests_e votes_e) (same_ideal P R same M)
-      ∙ ap (λ (rest : Option TransferValue → List ℕ → List ℕ). work_with (length R) d.opening d.inputs d.decision (ideal_after M R) rest requests_e votes_e)
+      ∙ ap (λ c. work_with c e.opening e.inputs e.decision (ideal_after M P) (remaining_of M P) requests_e votes_e)
+      (same_size P R same)
+      ∙ ap (λ o. work_with (length R) o e.inputs e.decision (ideal_after M P) (remaining_of M P) requests_e votes_e)
+      same_start
+      ∙ ap (λ (a : Agreement). work_with (length R) d.opening a.inputs e.decision (ideal_after M P) (remaining_of M P)
+      requests_e votes_e) same_agreement
+      ∙ ap (λ k. work_with (length R) d.opening d.inputs k (ideal_after M P) (remaining_of M P) requests_e votes_e)
+      same_decision
+      ∙ ap (λ ctx. work_with (length R) d.opening d.inputs d.decision ctx (remaining_of M P) requests_e votes_e)
+      (same_ideal P R same M)
+      ∙ ap (λ (rest : Option TransferValue → List ℕ → List ℕ).
+      work_with (length R) d.opening d.inputs d.decision (ideal_after M R) rest requests_e votes_e)
       (fun_ext (λ o. fun_ext (λ planned. same_remaining P R same M o planned)))
-      ∙ ap (λ (requests : Channel → Channel → Option BodyValue). work_with (length R) d.opening d.inputs d.decision (ideal_after M R) (remaining_of M R) requests votes_e)
+      ∙ ap (λ (requests : Channel → Channel → Option BodyValue).
+      work_with (length R) d.opening d.inputs d.decision (ideal_after M R) (remaining_of M R) requests votes_e)
       (fun_ext (λ q. fun_ext (λ p. got Request refl q p)))
-      ∙ ap (λ (votes : Channel → Channel → Option BodyValue). work_with (length R) d.opening d.inputs d.decision (ideal_after M R) (remaining_of M R) requests_d votes)
+      ∙ ap (λ (votes : Channel → Channel → Option BodyValue).
+      work_with (length R) d.opening d.inputs d.decision (ideal_after M R) (remaining_of M R) requests_d votes)
       (fun_ext (λ q. fun_ext (λ p. got Vote refl q p)))
       ∙ sym work_d
 
   -- the facts of the cycle
   pub cycle_alike : without_entries e ≡ without_entries d
   cycle_alike =
-      let C : CycleStart → Agreement → DecisionValue → CycleResult → Cycle = λ o a k w. record { entries = []; opening = o; agreement = a; decision = k; work = w } in
+      let C : CycleStart → Agreement → DecisionValue → CycleResult →
+      Cycle = λ o a k w. record { entries = []; opening = o; agreement = a; decision = k; work = w } in
       ap (λ o. C o e.agreement e.decision e.work) same_start
       ∙ ap (λ a. C d.opening a e.decision e.work) same_agreement
       ∙ ap (λ k. C d.opening d.agreement k e.work) same_decision

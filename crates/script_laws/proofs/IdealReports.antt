@@ -23,9 +23,19 @@ use Rattle.script_laws.proofs.QuietCycles.{active_all, ideal_is, lines_are}
 -- the part of a record, which does not tell of traces
 shape : ℕ → ChannelSet → Option TransferValue → List LineValue → ChannelSet → ChannelSet → Option ℕ → Part
 shape c active transfer lines removed joined remaining =
-    cycle_part false (record { cycle = c; active = active; transfer = transfer; lines = lines; traces = []; removed = removed; joined = joined; remaining = remaining })
+    cycle_part false (record {
+      cycle = c;
+      active = active;
+      transfer = transfer;
+      lines = lines;
+      traces = [];
+      removed = removed;
+      joined = joined;
+      remaining = remaining;
+    })
 
-part_by : (r : RecordValue) → cycle_part false r ≡ shape r.cycle r.active r.transfer r.lines r.removed r.joined r.remaining
+part_by : (r : RecordValue) →
+    cycle_part false r ≡ shape r.cycle r.active r.transfer r.lines r.removed r.joined r.remaining
 unfolding shape
 part_by r = refl
 
@@ -34,7 +44,9 @@ module _ (M : MissionValue) (L : Log) (mission : IsMission M) (faultless : IsFau
     pub parts : text_of_parts (cycle_parts false M [] (cycles_before M L n)) ≡ parts_below M n
     pub context : ideal_after M (cycles_before M L n) ≡ ideal M n
 
-  module _ (n : ℕ) (run : CalmRun M L mission faultless n) (due : IsDueNow M (cycles_before M L n) (next_cycle M L (cycles_before M L n))) (early : n < M.cycles) (before : ideal_after M (cycles_before M L n) ≡ ideal M n) where
+  module _ (n : ℕ) (run : CalmRun M L mission faultless n)
+      (due : IsDueNow M (cycles_before M L n) (next_cycle M L (cycles_before M L n))) (early : n < M.cycles)
+      (before : ideal_after M (cycles_before M L n) ≡ ideal M n) where
     abbrev e : Cycle
     e = next_cycle M L (cycles_before M L n)
 
@@ -45,24 +57,34 @@ module _ (M : MissionValue) (L : Log) (mission : IsMission M) (faultless : IsFau
         let r : RecordValue = ideal_record M n in
         ap part_text
         (part_by (cycle_record M [] (length (cycles_before M L n)) e)
-        ∙ ap (λ c. shape c e.active e.transfer (cycle_record M [] c e).lines e.removed e.joined (option_map (λ (t : TransferValue). length e.remaining) e.transfer)) (length-cycles_before M L n)
-        ∙ ap (λ s. shape n s e.transfer (cycle_record M [] n e).lines e.removed e.joined (option_map (λ (t : TransferValue). length e.remaining) e.transfer)) (active_all M L mission faultless n run due early)
-        ∙ ap (λ (o : Option TransferValue). shape n r.active o (cycle_record M [] n e).lines e.removed e.joined (option_map (λ (t : TransferValue). length e.remaining) o)) transferless
-        ∙ ap (λ ls. shape n r.active None ls e.removed e.joined None) (lines_are M L mission faultless n run due early before)
-        ∙ ap (λ s. shape n r.active None r.lines s e.joined None) (unremoved M L mission faultless n run.calm due early run.cycles)
-        ∙ ap (λ s. shape n r.active None r.lines [] s None) (unjoined M L mission faultless n run.calm due early run.cycles))
+        ∙ ap (λ c. shape c e.active e.transfer (cycle_record M [] c e).lines e.removed e.joined
+        (option_map (λ (t : TransferValue). length e.remaining) e.transfer)) (length-cycles_before M L n)
+        ∙ ap (λ s. shape n s e.transfer (cycle_record M [] n e).lines e.removed e.joined
+        (option_map (λ (t : TransferValue). length e.remaining) e.transfer))
+        (active_all M L mission faultless n run due early)
+        ∙ ap (λ (o : Option TransferValue).
+        shape n r.active o (cycle_record M [] n e).lines e.removed e.joined
+        (option_map (λ (t : TransferValue). length e.remaining) o)) transferless
+        ∙ ap (λ ls. shape n r.active None ls e.removed e.joined None)
+        (lines_are M L mission faultless n run due early before)
+        ∙ ap (λ s. shape n r.active None r.lines s e.joined None)
+        (unremoved M L mission faultless n run.calm due early run.cycles)
+        ∙ ap (λ s. shape n r.active None r.lines [] s None)
+        (unjoined M L mission faultless n run.calm due early run.cycles))
 
   pub tells : (n : ℕ) → n ≤ M.cycles → EachCycle (IsDueNow M) (cycles_before M L n) → TellsIdeal n
   tells zero early due = record { parts = refl; context = refl }
   tells (suc n) early due =
       let before = tells n (omega (arith, early)) due.1 in
       let run = calm_run M L mission faultless n (omega (arith, early)) due.1 in
-      let here = cycle_part false (cycle_record M [] (length (cycles_before M L n)) (next_cycle M L (cycles_before M L n))) in
+      let here = cycle_part false
+      (cycle_record M [] (length (cycles_before M L n)) (next_cycle M L (cycles_before M L n))) in
       record {
         parts =
             flat_map-append part_text (cycle_parts false M [] (cycles_before M L n)) (here ∷ [])
             ∙ ap (λ front. front ++ (part_text here ++ [])) before.parts
-            ∙ ap (λ text. parts_below M n ++ text) (append-nil (part_text here) ∙ part_is n run due.0 early before.context);
+            ∙ ap (λ text. parts_below M n ++ text)
+            (append-nil (part_text here) ∙ part_is n run due.0 early before.context);
         context = ideal_is M L mission faultless n run due.0 early before.context;
       }
 
@@ -80,7 +102,8 @@ unfolding no_histories
 untraced [] h = refl
 untraced (e ∷ past) h = ap (λ (o : Option StopValue). cond (is_some o) (told_histories past []) no_histories) h
 
-whole_text : (M : MissionValue) (past : Past) → text_of_parts (parts_of false M [] past None) ≡ head M ++ text_of_parts (cycle_parts false M [] past) ++ last M
+whole_text : (M : MissionValue) (past : Past) →
+    text_of_parts (parts_of false M [] past None) ≡ head M ++ text_of_parts (cycle_parts false M [] past) ++ last M
 unfolding head last
 whole_text M past =
     let first = head_line M.rules.channels M.cycles in
@@ -91,13 +114,15 @@ whole_text M past =
     ∙ ap (λ text. first ++ (cycles ++ text)) (append-nil (done ++ []) ∙ append-nil done)
     ∙ sym (append_assoc first cycles done)
 
-pub report_is : (M : MissionValue) (L : Log) → IsMission M → IsFaultless M L → HasDue M L M.cycles → report M L ≡ ideal_report M
+pub report_is : (M : MissionValue) (L : Log) → IsMission M → IsFaultless M L → HasDue M L M.cycles →
+    report M L ≡ ideal_report M
 unfolding report report_parts no_histories
 report_is M L mission faultless due =
     let past = cycles_before M L M.cycles in
     let each = each_is_due M L M.cycles due in
     let run = calm_run M L mission faultless M.cycles (omega arith) each in
-    ap (λ (o : Option StopValue). text_of_parts (parts_of false M (told_histories past []) (told_cycles past) o)) run.unstopped
+    ap (λ (o : Option StopValue). text_of_parts (parts_of false M (told_histories past []) (told_cycles past) o))
+    run.unstopped
     ∙ ap (λ (hs : Histories). text_of_parts (parts_of false M hs (told_cycles past) None)) (untraced past run.unstopped)
     ∙ ap (λ (cs : Past). text_of_parts (parts_of false M [] cs None)) (told_all past run.unstopped)
     ∙ whole_text M past

@@ -26,7 +26,8 @@ use Rattle.script_laws.proofs.FirstStops.{ComesTo}
 
 -- ---- one cycle of many
 
-each_at : (M : MissionValue) (L : Log) (Q : Past → Cycle → Type 0) (m n : ℕ) → n < m → EachCycle Q (cycles_before M L m) → Q (cycles_before M L n) (cycle_at M L n)
+each_at : (M : MissionValue) (L : Log) (Q : Past → Cycle → Type 0) (m n : ℕ) → n < m →
+    EachCycle Q (cycles_before M L m) → Q (cycles_before M L n) (cycle_at M L n)
 each_at M L Q zero n low each = absurd (omega (arith, low))
 each_at M L Q (suc m) n low each =
     elim (cases_eq m n) [
@@ -49,44 +50,56 @@ none_mapped f (Some x) h = absurd cc
 
 -- ---- the entries of the cycle of a stop
 
-none_of_other : (c k : ℕ) (entries : Log) → c < k → list_all (λ (y : EntryValue). y.cycle == c) entries ≡ true → entries_of k entries ≡ []
+none_of_other : (c k : ℕ) (entries : Log) → c < k → list_all (λ (y : EntryValue). y.cycle == c) entries ≡ true →
+    entries_of k entries ≡ []
 none_of_other c k [] less h = refl
 none_of_other c k (y ∷ entries) less h =
     let parts = both (y.cycle == c) (list_all (λ (x : EntryValue). x.cycle == c) entries) h in
-    ap (λ b. cond b (y ∷ entries_of k entries) (entries_of k entries)) (other (y.cycle == k) refl (eqb-true y.cycle c parts.0)) ∙ none_of_other c k entries less parts.1
+    ap (λ b. cond b (y ∷ entries_of k entries) (entries_of k entries))
+    (other (y.cycle == k) refl (eqb-true y.cycle c parts.0)) ∙ none_of_other c k entries less parts.1
   where
     other : (b : Bool) → (y.cycle == k) ≡ b → y.cycle ≡ c → b ≡ false
     other true e same = absurd (omega (arith, eqb-true y.cycle k e, same, less))
     other false e same = refl
 
-all_of : (c : ℕ) (entries : Log) → list_all (λ (y : EntryValue). y.cycle == c) entries ≡ true → entries_of c entries ≡ entries
+all_of : (c : ℕ) (entries : Log) → list_all (λ (y : EntryValue). y.cycle == c) entries ≡ true →
+    entries_of c entries ≡ entries
 all_of c [] h = refl
 all_of c (y ∷ entries) h =
     let parts = both (y.cycle == c) (list_all (λ (x : EntryValue). x.cycle == c) entries) h in
-    ap (λ b. cond b (y ∷ entries_of c entries) (entries_of c entries)) parts.0 ∙ ap (λ ys. y ∷ ys) (all_of c entries parts.1)
+    ap (λ b. cond b (y ∷ entries_of c entries) (entries_of c entries)) parts.0
+    ∙ ap (λ ys. y ∷ ys) (all_of c entries parts.1)
 
-none_earlier : (M : MissionValue) (past : Past) (entries : Log) (k : ℕ) → length past ≤ k → AreDue M past entries → entries_of k entries ≡ []
+none_earlier : (M : MissionValue) (past : Past) (entries : Log) (k : ℕ) → length past ≤ k → AreDue M past entries →
+    entries_of k entries ≡ []
 none_earlier M [] entries k low due = ap (entries_of k) due
 none_earlier M (e ∷ past) entries k low due =
     ap (entries_of k) due.2
     ∙ filter-append (λ (y : EntryValue). y.cycle == k) due.0 due.1
     ∙ ap (λ ys. ys ++ entries_of k due.1) (none_earlier M past due.0 k (omega (arith, low)) due.3)
-    ∙ none_of_other (length past) k due.1 (omega (arith, low)) (entries_cycle M past e (length past) (cycle_carries (length past) e) due.1 due.4 (all_of_cycle (length past) e))
+    ∙ none_of_other (length past) k due.1 (omega (arith, low))
+    (entries_cycle M past e (length past) (cycle_carries (length past) e) due.1 due.4
+    (all_of_cycle (length past) e))
 
-pub entries_through : (M : MissionValue) (L : Log) (n : ℕ) (slot : Slot) → AreDueThrough M (cycles_before M L n) (cycle_at M L n) slot L →
+pub entries_through : (M : MissionValue) (L : Log) (n : ℕ) (slot : Slot) →
+    AreDueThrough M (cycles_before M L n) (cycle_at M L n) slot L →
     IsDueThrough M (cycles_before M L n) (cycle_at M L n) slot
 entries_through M L n slot due =
     let past = cycles_before M L n in
     let e = cycle_at M L n in
-    let now = entries_cycle M past e (length past) (carries_through (length past) e slot) due.1 due.4 (all_through (length past) e slot) in
+    let now = entries_cycle M past e (length past) (carries_through (length past) e slot) due.1 due.4
+    (all_through (length past) e slot) in
     let these : e.entries ≡ due.1 =
-    entries_now M L past ∙ ap (entries_of (length past)) due.2 ∙ filter-append (λ (y : EntryValue). y.cycle == length past) due.0 due.1
-    ∙ ap (λ ys. ys ++ entries_of (length past) due.1) (none_earlier M past due.0 (length past) (omega arith) due.3) ∙ all_of (length past) due.1 now in
+    entries_now M L past ∙ ap (entries_of (length past)) due.2
+    ∙ filter-append (λ (y : EntryValue). y.cycle == length past) due.0 due.1
+    ∙ ap (λ ys. ys ++ entries_of (length past) due.1) (none_earlier M past due.0 (length past) (omega arith) due.3)
+    ∙ all_of (length past) due.1 now in
     subst (λ ys. AllZip (IsDue M past e) (carries_through (length past) e slot) ys) (sym these) due.4
 
 -- ---- a run that came to its end
 
--- how far it came in a cycle: its entries are the due ones up to the end of the first slot that stops it, or all of them
+-- how far it came in a cycle: its entries are the due ones up to the end of the first slot that stops it, or all of
+-- them
 pub record Reaches (M : MissionValue) (L : Log) (n : ℕ) : Type 0 where
   pub last : Slot
   pub due : IsDueThrough M (cycles_before M L n) (cycle_at M L n) last
@@ -98,11 +111,16 @@ reaches_end M L m n run low =
     record {
       last = Output;
       due = each_at M L (IsDueNow M) m n low (run_due M L m run);
-      comes = inr (refl, none_mapped _ (find (halts (length (cycles_before M L n)) (cycle_at M L n)) every_slot) (each_at M L IsUnstopped m n low (each_unstopped (cycles_before M L m) run.unstopped)));
+      comes = inr (
+        refl,
+        none_mapped _ (find (halts (length (cycles_before M L n)) (cycle_at M L n)) every_slot)
+            (each_at M L IsUnstopped m n low (each_unstopped (cycles_before M L m) run.unstopped)),
+      );
     }
 
 -- the slot of a stop
-stop_slot : (n : ℕ) (e : Cycle) (stop : StopValue) → stop_in n e ≡ Some stop → find (halts n e) every_slot ≡ Some stop.slot
+stop_slot : (n : ℕ) (e : Cycle) (stop : StopValue) → stop_in n e ≡ Some stop →
+    find (halts n e) every_slot ≡ Some stop.slot
 stop_slot n e stop h = by (find (halts n e) every_slot) h
   where
     told : Slot → StopValue
@@ -121,19 +139,22 @@ reaches_stop M L stop s =
     record {
       last = stop.slot;
       due = entries_through M L stop.cycle stop.slot s.due;
-      comes = inl (subst (λ c. find (halts c e) every_slot ≡ Some stop.slot) (sym (length-cycles_before M L stop.cycle)) (stop_slot stop.cycle e stop s.stopped));
+      comes = inl (subst (λ c. find (halts c e) every_slot ≡ Some stop.slot) (sym (length-cycles_before M L stop.cycle))
+          (stop_slot stop.cycle e stop s.stopped));
     }
 
 pub stop_clash : (stop : StopValue) (o : Option StopValue) → o ≡ None → o ≡ Some stop → ⊥
 stop_clash stop o h k = cc (sym h ∙ k)
 
-pub reaches : (M : MissionValue) (L : Log) (n : ℕ) → IsRun M L M.cycles ⊎ ((stop : StopValue) × StopsAt M L stop) → n < M.cycles → stop_of (cycles_before M L n) ≡ None → Reaches M L n
+pub reaches : (M : MissionValue) (L : Log) (n : ℕ) → IsRun M L M.cycles ⊎ ((stop : StopValue) × StopsAt M L stop) →
+    n < M.cycles → stop_of (cycles_before M L n) ≡ None → Reaches M L n
 reaches M L n (inl run) low goes_on = reaches_end M L M.cycles n (whole_run M L M.cycles run) low
 reaches M L n (inr (stop, s)) low goes_on =
     elim (cases_lt n stop.cycle) [
       | inl before ↦ reaches_end M L stop.cycle n (stopped_run M L stop.cycle stop.slot s.due s.unstopped) before
       | inr later ↦ elim (cases_eq stop.cycle n) [
         | inl same ↦ subst (Reaches M L) same (reaches_stop M L stop s)
-        | inr other ↦ absurd (stop_clash stop (stop_of (cycles_before M L n)) goes_on (stop_stays M L stop.cycle stop s.unstopped s.stopped (n - stop.cycle - 1) n (omega (arith, later, other))))
+        | inr other ↦ absurd (stop_clash stop (stop_of (cycles_before M L n)) goes_on
+            (stop_stays M L stop.cycle stop s.unstopped s.stopped (n - stop.cycle - 1) n (omega (arith, later, other))))
       ]
     ]

@@ -25,7 +25,9 @@ size_bare P = length-map P without_entries
 joins_bare : (q : Channel) (s : ℕ) (P : Past) → joins_since q s (bare P) ≡ joins_since q s P
 joins_bare q s [] = refl
 joins_bare q s (e ∷ P) =
-    let J : ℕ → Bool → Bool = λ k rest. if nat_lt k s then true else if k == s then joins_from Sweep e q else joins_from Request e q && rest in
+    let J : ℕ → Bool → Bool =
+    λ k rest. if nat_lt k s then true else if k == s then joins_from Sweep e q
+    else joins_from Request e q && rest in
     ap (λ k. J k (joins_since q s (bare P))) (size_bare P) ∙ ap (J (length P)) (joins_bare q s P)
 
 whole_bare : (q : Channel) (P : Past) → is_whole q (bare P) ≡ is_whole q P
@@ -40,7 +42,8 @@ starts_bare q (e ∷ P) =
 
 held_bare : (q : Channel) (P : Past) → held_start q (bare P) ≡ held_start q P
 held_bare q P =
-    ap (λ (t : ℕ → Bool). find t (starts_of q (bare P))) (fun_ext (λ s. joins_bare q s P)) ∙ ap (find (λ s. joins_since q s P)) (starts_bare q P)
+    ap (λ (t : ℕ → Bool). find t (starts_of q (bare P))) (fun_ext (λ s. joins_bare q s P))
+    ∙ ap (find (λ s. joins_since q s P)) (starts_bare q P)
 
 swept_bare : (M : MissionValue) (s : ℕ) (P : Past) → swept_since M s (bare P) ≡ swept_since M s P
 swept_bare M s [] = refl
@@ -75,21 +78,25 @@ ideal_bare M (e ∷ P) = refl
 
 mode_bare : (M : MissionValue) (P : Past) (q : Channel) → mode_after M (bare P) q ≡ mode_after M P q
 mode_bare M [] q = refl
-mode_bare M (e ∷ P) q = ap (λ w. mode_at_end M.return_after (has (active_set M (e ∷ P)) q) w (mode_in e q Switch)) (whole_bare q (e ∷ P))
+mode_bare M (e ∷ P) q = ap (λ w. mode_at_end M.return_after (has (active_set M (e ∷ P)) q) w (mode_in e q Switch))
+    (whole_bare q (e ∷ P))
 
 context_bare : (M : MissionValue) (P : Past) (q : Channel) → context_after M (bare P) q ≡ context_after M P q
 context_bare M [] q = refl
-context_bare M (e ∷ P) q = ap (λ (w : Bool). if w then Some e.ideal_context else place_or e.contexts_after q None) (whole_bare q (e ∷ P))
+context_bare M (e ∷ P) q =
+    ap (λ (w : Bool). if w then Some e.ideal_context else place_or e.contexts_after q None) (whole_bare q (e ∷ P))
 
 source_bare : (M : MissionValue) (P : Past) (q : Channel) → source_word M (bare P) q ≡ source_word M P q
 source_bare M [] q = refl
 source_bare M (e ∷ P) q =
-    let S : ℕ → SourceValue = λ k. record { words = sensor M q k; accuse = accused_before (e ∷ P) q; heard = heard_before (e ∷ P) q } in
+    let S : ℕ → SourceValue =
+    λ k. record { words = sensor M q k; accuse = accused_before (e ∷ P) q; heard = heard_before (e ∷ P) q } in
     ap S (size_bare (e ∷ P))
 
 -- ---- the opening
 
-abbrev opening_with : MissionValue → ℕ → ChannelSet → ChannelSet → List ℕ → Option TransferValue → (Channel → ModeValue) → (Channel → Bool) → (Channel → Option ContextValue) → CycleStart
+abbrev opening_with : MissionValue → ℕ → ChannelSet → ChannelSet → List ℕ → Option TransferValue →
+    (Channel → ModeValue) → (Channel → Bool) → (Channel → Option ContextValue) → CycleStart
 opening_with M c active fresh counts running mode marked context =
     let started : List ModeValue = by_channel (λ q. scripted_mode_at_start M.script q c (mode q)) in
     record {
@@ -97,13 +104,17 @@ opening_with M c active fresh counts running mode marked context =
       fresh = fresh;
       counts_before = counts;
       running = running;
-      modes = map (λ slot. by_channel (λ q. scripted_mode_in_slot M.script q c slot (place_or started q down))) every_slot;
-      damaged = channels_where (λ q. is_up (place_or started q down) && (list_any (is_damage q c) M.script || marked q));
-      contexts_before = by_channel (λ q. if is_up (place_or started q down) then option_map (damaged_by M.script q c) (context q) else None);
+      modes = map (λ slot. by_channel (λ q. scripted_mode_in_slot M.script q c slot (place_or started q down)))
+          every_slot;
+      damaged = channels_where (λ q. is_up (place_or started q down)
+          && (list_any (is_damage q c) M.script || marked q));
+      contexts_before = by_channel
+          (λ q. if is_up (place_or started q down) then option_map (damaged_by M.script q c) (context q) else None);
     }
 
 opening_is : (M : MissionValue) (P : Past) →
-    cycle_start_of M P ≡ opening_with M (length P) (active_set M P) (fresh_set P) (base_counts M P) (running_transfer P) (mode_after M P) (was_damaged P) (context_after M P)
+    cycle_start_of M P ≡ opening_with M (length P) (active_set M P) (fresh_set P) (base_counts M P) (running_transfer P)
+    (mode_after M P) (was_damaged P) (context_after M P)
 unfolding cycle_start_of
 opening_is M P = refl
 
@@ -111,24 +122,38 @@ opening_bare : (M : MissionValue) (P : Past) → cycle_start_of M (bare P) ≡ c
 opening_bare M P =
     let B : Past = bare P in
     opening_is M B
-    ∙ ap (λ k. opening_with M k (active_set M B) (fresh_set B) (base_counts M B) (running_transfer B) (mode_after M B) (was_damaged B) (context_after M B)) (size_bare P)
-    ∙ ap (λ s. opening_with M (length P) s (fresh_set B) (base_counts M B) (running_transfer B) (mode_after M B) (was_damaged B) (context_after M B)) (active_bare M P)
-    ∙ ap (λ s. opening_with M (length P) (active_set M P) s (base_counts M B) (running_transfer B) (mode_after M B) (was_damaged B) (context_after M B)) (fresh_bare P)
-    ∙ ap (λ s. opening_with M (length P) (active_set M P) (fresh_set P) s (running_transfer B) (mode_after M B) (was_damaged B) (context_after M B)) (counts_bare M P)
-    ∙ ap (λ s. opening_with M (length P) (active_set M P) (fresh_set P) (base_counts M P) s (mode_after M B) (was_damaged B) (context_after M B)) (running_bare P)
-    ∙ ap (λ (f : Channel → ModeValue). opening_with M (length P) (active_set M P) (fresh_set P) (base_counts M P) (running_transfer P) f (was_damaged B) (context_after M B)) (fun_ext (mode_bare M P))
-    ∙ ap (λ (f : Channel → Bool). opening_with M (length P) (active_set M P) (fresh_set P) (base_counts M P) (running_transfer P) (mode_after M P) f (context_after M B)) (fun_ext (damaged_bare P))
-    ∙ ap (λ (f : Channel → Option ContextValue). opening_with M (length P) (active_set M P) (fresh_set P) (base_counts M P) (running_transfer P) (mode_after M P) (was_damaged P) f) (fun_ext (context_bare M P))
+    ∙ ap (λ k. opening_with M k (active_set M B) (fresh_set B) (base_counts M B) (running_transfer B) (mode_after M B)
+    (was_damaged B) (context_after M B)) (size_bare P)
+    ∙ ap (λ s. opening_with M (length P) s (fresh_set B) (base_counts M B) (running_transfer B) (mode_after M B)
+    (was_damaged B) (context_after M B)) (active_bare M P)
+    ∙ ap (λ s. opening_with M (length P) (active_set M P) s (base_counts M B) (running_transfer B) (mode_after M B)
+    (was_damaged B) (context_after M B)) (fresh_bare P)
+    ∙ ap (λ s. opening_with M (length P) (active_set M P) (fresh_set P) s (running_transfer B) (mode_after M B)
+    (was_damaged B) (context_after M B)) (counts_bare M P)
+    ∙ ap (λ s. opening_with M (length P) (active_set M P) (fresh_set P) (base_counts M P) s (mode_after M B)
+    (was_damaged B) (context_after M B)) (running_bare P)
+    ∙ ap (λ (f : Channel → ModeValue).
+    opening_with M (length P) (active_set M P) (fresh_set P) (base_counts M P) (running_transfer P) f
+    (was_damaged B) (context_after M B)) (fun_ext (mode_bare M P))
+    ∙ ap (λ (f : Channel → Bool).
+    opening_with M (length P) (active_set M P) (fresh_set P) (base_counts M P) (running_transfer P) (mode_after M P)
+    f (context_after M B)) (fun_ext (damaged_bare P))
+    ∙ ap (λ (f : Channel → Option ContextValue).
+    opening_with M (length P) (active_set M P) (fresh_set P) (base_counts M P) (running_transfer P) (mode_after M P)
+    (was_damaged P) f) (fun_ext (context_bare M P))
     ∙ sym (opening_is M P)
 
 plan_bare : (M : MissionValue) (P : Past) (o : Option TransferValue) → plan_of M (bare P) o ≡ plan_of M P o
 plan_bare M P None = refl
 plan_bare M P (Some t) = ap (planned_blocks M.rules.blocks M.rules.sweep) (swept_bare M t.start P)
 
-remaining_bare : (M : MissionValue) (P : Past) (o : Option TransferValue) (planned : List ℕ) → remaining_of M (bare P) o planned ≡ remaining_of M P o planned
+remaining_bare : (M : MissionValue) (P : Past) (o : Option TransferValue) (planned : List ℕ) →
+    remaining_of M (bare P) o planned ≡ remaining_of M P o planned
 remaining_bare M P None planned = refl
 remaining_bare M P (Some t) planned =
-    let R : ℕ → List TransferCycle → List ℕ = λ k cycles. remaining_blocks M.rules.blocks (record { planned = planned; written = written_blocks M k } ∷ cycles) in
+    let R : ℕ → List TransferCycle →
+    List ℕ = λ k cycles. remaining_blocks M.rules.blocks
+    (record { planned = planned; written = written_blocks M k } ∷ cycles) in
     ap (λ k. R k (swept_since M t.start (bare P))) (size_bare P) ∙ ap (R (length P)) (swept_bare M t.start P)
 
 -- ---- what two pasts with the same facts say
@@ -155,5 +180,6 @@ module _ (P R : Past) (same : HaveSameFacts P R) where
   pub same_ideal : (M : MissionValue) → ideal_after M P ≡ ideal_after M R
   same_ideal M = same_of (ideal_after M) (ideal_bare M)
 
-  pub same_remaining : (M : MissionValue) (o : Option TransferValue) (planned : List ℕ) → remaining_of M P o planned ≡ remaining_of M R o planned
+  pub same_remaining : (M : MissionValue) (o : Option TransferValue) (planned : List ℕ) →
+      remaining_of M P o planned ≡ remaining_of M R o planned
   same_remaining M o planned = same_of (λ Q. remaining_of M Q o planned) (λ Q. remaining_bare M Q o planned)

@@ -9,7 +9,8 @@ use Rattle.guards_model.specs.Network.{suits, counting, ballot_of, actuator}
 use Rattle.guards_model.specs.Actuators.{of_count, ballot_counting}
 
 by_body : (format : FormatValue) (a : Bool) (body : BodyValue) →
-    (if a then option_and_then (of_count format.outputs) (ballot_of (Some body)) else None) ≡ ballot_of (if a && suits format Vote actuator body then Some body else None)
+    (if a then option_and_then (of_count format.outputs) (ballot_of (Some body)) else None)
+    ≡ ballot_of (if a && suits format Vote actuator body then Some body else None)
 by_body format false body = refl
 by_body format true (vote_body words) = by (length words == format.outputs)
   where
@@ -26,5 +27,6 @@ by_body format true (sweep_body s) = refl
 by_body format true (final_body f) = refl
 by_body format true (switch_body active) = refl
 
-pub vote_counts : (format : FormatValue) (c : ℕ) (q : Channel) (f : FrameValue) → ballot_counting format.version format.outputs c q f ≡ ballot_of (counting format c Vote q actuator f)
+pub vote_counts : (format : FormatValue) (c : ℕ) (q : Channel) (f : FrameValue) →
+    ballot_counting format.version format.outputs c q f ≡ ballot_of (counting format c Vote q actuator f)
 vote_counts format c q f = by_body format (f.version == format.version && (f.sender == q && f.cycle == c)) f.body

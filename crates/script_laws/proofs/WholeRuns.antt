@@ -16,8 +16,10 @@ use Rattle.guards_laws.proofs.FirstStop.{told_whole}
 use Rattle.script_laws.proofs.SlotsAlike.{AreBesides, cycle_same}
 use Rattle.script_laws.proofs.Reports.{script_now, same_parts}
 
-module _ (M : MissionValue) (L K : Log) (script_l : AllByRecursion (IsScripted (bus_rules M)) L) (script_k : AllByRecursion (IsScripted (bus_rules M)) K) where
-  all_same : (n : ℕ) → EachCycle (IsDueNow M) (cycles_before M L n) → EachCycle (IsDueNow M) (cycles_before M K n) → HaveSameFacts (cycles_before M L n) (cycles_before M K n)
+module _ (M : MissionValue) (L K : Log) (script_l : AllByRecursion (IsScripted (bus_rules M)) L)
+    (script_k : AllByRecursion (IsScripted (bus_rules M)) K) where
+  all_same : (n : ℕ) → EachCycle (IsDueNow M) (cycles_before M L n) → EachCycle (IsDueNow M) (cycles_before M K n) →
+      HaveSameFacts (cycles_before M L n) (cycles_before M K n)
   all_same zero due_l due_k = refl
   all_same (suc n) due_l due_k =
       let P = cycles_before M L n in
@@ -31,7 +33,8 @@ module _ (M : MissionValue) (L K : Log) (script_l : AllByRecursion (IsScripted (
         script_first = script_now (bus_rules M) M L P script_l;
         script_second = script_now (bus_rules M) M K R script_k;
       } in
-      ap (λ x. x ∷ map without_entries P) (cycle_same M L K P R Output Output two (record { first = refl; second = refl }))
+      ap (λ x. x ∷ map without_entries P)
+      (cycle_same M L K P R Output Output two (record { first = refl; second = refl }))
       ∙ ap (λ xs. without_entries (next_cycle M K R) ∷ xs) before
 
   pub runs_alike : (n : ℕ) → HasRun M L n → HasRun M K n → HaveSameFacts (cycles_before M L n) (cycles_before M K n)

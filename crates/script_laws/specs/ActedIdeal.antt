@@ -1,5 +1,5 @@
--- The report of a run without faults with an actuator: after each cycle its words move towards the output words of the ideal
--- machine. This project's own.
+-- The report of a run without faults with an actuator: after each cycle its words move towards the output words of the
+-- ideal machine. This project's own.
 use Rattle.std.specs.Prelude.{ℕ, zero, suc, ℤ, List, [], ◌++◌, Option, Some, None}
 use Rattle.guards_model.specs.Actuators.{words_towards}
 use Rattle.guards_model.specs.Missions.{ActuatorValue, MissionValue, output_words}

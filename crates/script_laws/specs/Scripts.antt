@@ -12,13 +12,13 @@ use Rattle.guards_runs.specs.Disturbed.{stop_in, stop_of}
 use Rattle.guards_runs.specs.Due.{AreDueThrough}
 use Rattle.guards_runs.specs.Promises.{IsRun}
 
--- A rule for the sweep slot loses the piece: none puts another in its place. A forged piece could be just the one that is
--- sent, where the copies fell so, and then its sender is not charged.
+-- A rule for the sweep slot loses the piece: none puts another in its place. A forged piece could be just the one that
+-- is sent, where the copies fell so, and then its sender is not charged.
 abbrev pub ForgesNoSweep : List RuleValue → Type 0
 ForgesNoSweep rules = AllByRecursion (λ (rule : RuleValue). rule.slot ≡ Sweep → rule.act ≡ lose) rules
 
--- A run stopped: the cycles before ran, and of its own cycle the entries are the due ones up to the end of the slot that
--- stopped it.
+-- A run stopped: the cycles before ran, and of its own cycle the entries are the due ones up to the end of the slot
+-- that stopped it.
 pub record StopsAt (M : MissionValue) (L : Log) (stop : StopValue) : Type 0 where
   pub within : stop.cycle < M.cycles
   pub due : AreDueThrough M (cycles_before M L stop.cycle) (cycle_at M L stop.cycle) stop.slot L

@@ -23,17 +23,21 @@ pub fn scripted_runs_are_alike()
         report M L ≡ report M K }
 {}
 
-/// Two runs of one mission over a bus that does what the script says, each of which came to its last cycle or to its stop,
-/// and wherever copies fell in them: where the script forges no sweep frame they stop in the same slot with the same sets,
-/// or neither stops; the cycles before the stop have the same facts but for the entries; equally many frames were carried;
-/// and their reports are the same text.
+/// Two runs of one mission over a bus that does what the script says, each of which came to its last cycle or to its
+/// stop, and wherever copies fell in them: where the script forges no sweep frame they stop in the same slot with the
+/// same sets, or neither stops; the cycles before the stop have the same facts but for the entries; equally many frames
+/// were carried; and their reports are the same text.
 pub fn scripted_runs_end_alike()
-    ensures stops { (M : MissionValue) (L K : Log) → ForgesNoSweep (bus_rules M) → IsScriptedRun M L → IsScriptedRun M K →
+    ensures stops { (M : MissionValue) (L K : Log) → ForgesNoSweep (bus_rules M) → IsScriptedRun M L →
+        IsScriptedRun M K →
         stop_of (cycles_before M L M.cycles) ≡ stop_of (cycles_before M K M.cycles) }
-    ensures facts { (M : MissionValue) (L K : Log) → ForgesNoSweep (bus_rules M) → IsScriptedRun M L → IsScriptedRun M K →
+    ensures facts { (M : MissionValue) (L K : Log) → ForgesNoSweep (bus_rules M) → IsScriptedRun M L →
+        IsScriptedRun M K →
         HaveSameFacts (told_cycles (cycles_before M L M.cycles)) (told_cycles (cycles_before M K M.cycles)) }
-    ensures frames { (M : MissionValue) (L K : Log) → ForgesNoSweep (bus_rules M) → IsScriptedRun M L → IsScriptedRun M K →
+    ensures frames { (M : MissionValue) (L K : Log) → ForgesNoSweep (bus_rules M) → IsScriptedRun M L →
+        IsScriptedRun M K →
         length L ≡ length K }
-    ensures reports { (M : MissionValue) (L K : Log) → ForgesNoSweep (bus_rules M) → IsScriptedRun M L → IsScriptedRun M K →
+    ensures reports { (M : MissionValue) (L K : Log) → ForgesNoSweep (bus_rules M) → IsScriptedRun M L →
+        IsScriptedRun M K →
         report M L ≡ report M K }
 {}

@@ -43,6 +43,7 @@ pub fn uncharged_outputs_stop_nothing()
 /// Over a bus that does what the script says the output entries of two cycles with the same facts are the same.
 pub fn scripted_outputs_are_alike()
     ensures { (rules : List RuleValue) (version c : ℕ) (e d : Cycle) (xs ys : Log) →
-        without_entries e ≡ without_entries d → AreOutputsDue version c e xs → AreOutputsDue version c d ys → AllByRecursion (IsScripted rules) xs →
+        without_entries e ≡ without_entries d → AreOutputsDue version c e xs → AreOutputsDue version c d ys →
+        AllByRecursion (IsScripted rules) xs →
         AllByRecursion (IsScripted rules) ys → xs ≡ ys }
 {}

@@ -18,7 +18,8 @@ use Rattle.slot_traffic.specs.Arrivals.{IsMarked, is_changed, piece_value}
 
 -- the pieces that are kept as changed are those that differ
 pub marked_any : (sent : List ℕ) (pieces : List Piece) → AllByRecursion (IsMarked sent) pieces →
-    list_any (λ p. is_changed p.arrival) pieces ≡ list_any (λ (p : PieceValue). differs_from sent p.delivered) (map (piece_value sent) pieces)
+    list_any (λ p. is_changed p.arrival) pieces
+    ≡ list_any (λ (p : PieceValue). differs_from sent p.delivered) (map (piece_value sent) pieces)
 marked_any sent [] m = refl
 marked_any sent (p ∷ ps) m = rw (m.0, marked_any sent ps m.1) refl
 
@@ -40,7 +41,8 @@ pub one_sender : (c : ℕ) (slot : Slot) (q from : Channel) (sent : List ℕ) (p
 one_sender c slot q from sent [] = and_none (from == q)
 one_sender c slot q from sent (p ∷ ps) =
     let rest = list_any (λ (p : PieceValue). differs_from sent p.delivered) ps in
-    ap (λ b. ((b && (from == q)) && differs_from sent p.delivered) || list_any (is_charge c slot q) (map (entry_by c slot from sent) ps)) (this_slot c slot)
+    ap (λ b. ((b && (from == q)) && differs_from sent p.delivered)
+    || list_any (is_charge c slot q) (map (entry_by c slot from sent) ps)) (this_slot c slot)
     ∙ ap (λ b. ((true && (from == q)) && differs_from sent p.delivered) || b) (one_sender c slot q from sent ps)
     ∙ first_or_later (from == q) (differs_from sent p.delivered) rest
 
@@ -62,10 +64,13 @@ some_then b false r h = differ (sym h)
 
 one_more : (c : ℕ) (slot : Slot) (q : Channel) (parcel : ParcelValue) (rest : List ParcelValue) →
     charges c slot (parcel ∷ rest) q
-    ≡ (((parcel.frame.sender == q) && list_any (λ (p : PieceValue). differs_from (spelling parcel.frame) p.delivered) parcel.pieces) || charges c slot rest q)
+    ≡ (((parcel.frame.sender == q)
+    && list_any (λ (p : PieceValue). differs_from (spelling parcel.frame) p.delivered) parcel.pieces)
+    || charges c slot rest q)
 one_more c slot q parcel rest =
     list_any-append (is_charge c slot q) (entries_of_parcel c slot parcel) (entries_of_all c slot rest)
-    ∙ ap (λ b. b || charges c slot rest q) (one_sender c slot q parcel.frame.sender (spelling parcel.frame) parcel.pieces)
+    ∙ ap (λ b. b || charges c slot rest q)
+    (one_sender c slot q parcel.frame.sender (spelling parcel.frame) parcel.pieces)
 
 -- a parcel whose pieces all arrived as sent charges nobody
 pub none_charged : (c : ℕ) (slot : Slot) (parcel : ParcelValue) (rest : List ParcelValue) →
@@ -78,9 +83,11 @@ none_charged c slot parcel rest same =
 -- and another one its sender
 pub one_charged : (c : ℕ) (slot : Slot) (parcel : ParcelValue) (rest : List ParcelValue) →
     list_any (λ (p : PieceValue). differs_from (spelling parcel.frame) p.delivered) parcel.pieces ≡ true →
-    union (channels_where (charges c slot rest)) (parcel.frame.sender ∷ []) ≡ channels_where (charges c slot (parcel ∷ rest))
+    union (channels_where (charges c slot rest)) (parcel.frame.sender ∷ [])
+    ≡ channels_where (charges c slot (parcel ∷ rest))
 one_charged c slot parcel rest differs =
-    sets_alike (λ q. has (channels_where (charges c slot rest)) q || has (parcel.frame.sender ∷ []) q) (charges c slot (parcel ∷ rest))
+    sets_alike (λ q. has (channels_where (charges c slot rest)) q || has (parcel.frame.sender ∷ []) q)
+    (charges c slot (parcel ∷ rest))
     (λ q low. ap (λ b. b || ((parcel.frame.sender == q) || false)) (has-channels_where (charges c slot rest) q low)
     ∙ some_then (parcel.frame.sender == q) _ (charges c slot rest q) differs ∙ sym (one_more c slot q parcel rest))
 

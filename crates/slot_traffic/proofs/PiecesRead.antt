@@ -11,7 +11,8 @@ pub own_frame : (f : FrameValue) → IsTrue (in_range f) → Some f ≡ frame_in
 own_frame f fits = sym (only (spelling f) f (fits, refl))
 
 -- two facts of one value make a third
-pub both_ok : {A E : Type 0} (P Q R : A → Type 0) (r : Result A E) → ((x : A) → P x → Q x → R x) → IfOk r P → IfOk r Q → IfOk r R
+pub both_ok : {A E : Type 0} (P Q R : A → Type 0) (r : Result A E) → ((x : A) → P x → Q x → R x) → IfOk r P → IfOk r Q →
+    IfOk r R
 both_ok P Q R (Ok x) f p q = f x p q
 both_ok P Q R (Err e) f p q = tt
 

@@ -8,4 +8,5 @@ use Rattle.guards_model.specs.Network.{suits}
 
 -- where this holds, `counting` gives the frame's body, and elsewhere none
 abbrev pub counts : FormatValue → ℕ → Slot → Channel → ℕ → FrameValue → Bool
-counts format c slot from to f = (f.version == format.version && (f.sender == from && f.cycle == c)) && suits format slot to f.body
+counts format c slot from to f =
+    (f.version == format.version && (f.sender == from && f.cycle == c)) && suits format slot to f.body

@@ -1,4 +1,5 @@
--- The frame of a sender with the pieces that were delivered of it, and the entries that they stand for. This project's own.
+-- The frame of a sender with the pieces that were delivered of it, and the entries that they stand for. This project's
+-- own.
 use Rattle.std.specs.Prelude.{ℕ, List, map, flat_map, Option, option_and_then}
 use Rattle.guards_model.specs.declared.Slot.{Slot}
 use Rattle.guards_model.specs.Channels.{Channel}

@@ -9,8 +9,8 @@ use guards_base::{Chan, Law, Slot};
 use icn_frames::{BlockCopy, Body, ControlWord, FinalBody, Frame, SweepBody};
 use std::marker::Model;
 
-/// What frames are judged by: the mission's version (1 or 2) and law, how many blocks a context has (up to 256), and how
-/// many output words there are (up to 8).
+/// What frames are judged by: the mission's version (1 or 2) and law, how many blocks a context has (up to 256), and
+/// how many output words there are (up to 8).
 #[derive(Clone, Copy, Debug, PartialEq, Eq)]
 pub struct Format {
     pub version: u8,

@@ -29,7 +29,10 @@ impl Model for Parcel {
 
     ghost Value = { ParcelValue };
 
-    ghost view = { λ parcel. record { frame = parcel.frame; pieces = map (piece_value (spelling parcel.frame)) parcel.pieces.items } };
+    ghost view = { λ parcel. record {
+      frame = parcel.frame;
+      pieces = map (piece_value (spelling parcel.frame)) parcel.pieces.items;
+    } };
 
     ghost invariant = { λ parcel. IsParcel parcel.frame parcel.pieces.items };
 }
@@ -95,7 +98,8 @@ fn readings(alloc: Global, pieces: &[Piece]) -> Result<Sequence<Reading>, AllocE
 /// The frame of a reading.
 fn frame_of<'a>(own: &'a Frame, reading: &'a Reading) -> Option<&'a Frame>
     ensures same { option_copied result ≡ reading_value own.now reading.now }
-    ensures range { IsTrue (in_range own.now) → IsReadingInRange reading.now → IfSome result (λ frame. IsTrue (in_range frame.now)) }
+    ensures range { IsTrue (in_range own.now) → IsReadingInRange reading.now →
+        IfSome result (λ frame. IsTrue (in_range frame.now)) }
 {
     match reading {
         Reading::Own => Some(own),
@@ -110,7 +114,8 @@ fn first_frame<'a>(
     readings: &'a [Reading],
     to: u8,
 ) -> Option<&'a Frame>
-    ensures same { (sent : List ℕ) → map (reading_value own.now) readings.now ≡ map spelled_by (map (piece_value sent) pieces.now) →
+    ensures same { (sent : List ℕ) →
+        map (reading_value own.now) readings.now ≡ map spelled_by (map (piece_value sent) pieces.now) →
         option_copied result ≡ option_and_then spelled_by (find (λ p. p.to == to) (map (piece_value sent) pieces.now)) }
     ensures range { IsTrue (in_range own.now) → AllByRecursion IsReadingInRange readings.now →
         IfSome result (λ frame. IsTrue (in_range frame.now)) }

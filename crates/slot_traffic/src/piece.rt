@@ -69,8 +69,8 @@ fn arrival_of(sent: &[u8], delivered: Delivery) -> Arrival
     }
 }
 
-/// Carries a piece to each receiver, in order, and puts what was delivered into the list, which has room for it. For want of
-/// memory the first few receivers were served, and the list has their pieces.
+/// Carries a piece to each receiver, in order, and puts what was delivered into the list, which has room for it. For
+/// want of memory the first few receivers were served, and the list has their pieces.
 pub fn carry_to_each<B: Bus>(
     bus: &mut B,
     cycle: u32,
@@ -85,7 +85,8 @@ pub fn carry_to_each<B: Bus>(
     ensures script { (B.seen bus.new).script ≡ (B.seen bus.old).script }
     ensures carried { OnOk result (AreDelivered B.may (B.seen bus.old).script (B.seen bus.old).log (B.seen bus.new).log
         cycle slot from receivers.now sent.now (map (piece_value sent.now) pieces.new.items)) }
-    ensures some { OnErr result (AreSomeDelivered B.may (B.seen bus.old).script (B.seen bus.old).log (B.seen bus.new).log
+    ensures some { OnErr result
+        (AreSomeDelivered B.may (B.seen bus.old).script (B.seen bus.old).log (B.seen bus.new).log
         cycle slot from receivers.now sent.now (map (piece_value sent.now) pieces.new.items)) }
     ensures marked { AllByRecursion (IsMarked sent.now) pieces.new.items }
 {

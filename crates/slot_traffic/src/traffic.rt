@@ -41,7 +41,11 @@ impl Model for Traffic {
 
     ghost Value = { TrafficValue };
 
-    ghost view = { λ t. record { cycle = t.cycle; slot = t.slot; entries = entries_of_all t.cycle t.slot t.parcels.items } };
+    ghost view = { λ t. record {
+      cycle = t.cycle;
+      slot = t.slot;
+      entries = entries_of_all t.cycle t.slot t.parcels.items;
+    } };
 }
 
 /// The traffic of a slot, read by a format.
@@ -62,11 +66,18 @@ impl Model for Arrived {
 
     ghost invariant = { λ a. AllByRecursion SpellInRange a.parcels.items };
 
-    ghost view = { λ a. record { format = a.format; traffic = record { cycle = a.cycle; slot = a.slot; entries = entries_of_all a.cycle a.slot a.parcels.items } } };
+    ghost view = { λ a. record {
+      format = a.format;
+      traffic = record {
+        cycle = a.cycle;
+        slot = a.slot;
+        entries = entries_of_all a.cycle a.slot a.parcels.items;
+      };
+    } };
 }
 
-/// Encodes a frame once, and carries it to each receiver but its sender. The list gets what was delivered, also where memory
-/// ran out after the first few.
+/// Encodes a frame once, and carries it to each receiver but its sender. The list gets what was delivered, also where
+/// memory ran out after the first few.
 fn carried<B: Bus>(
     alloc: Global,
     bus: &mut B,
@@ -79,10 +90,14 @@ fn carried<B: Bus>(
     requires range { IsTrue (in_range frame.now) }
     requires empty { pieces.old.items ≡ [] }
     ensures script { (B.seen bus.new).script ≡ (B.seen bus.old).script }
-    ensures sent { OnOk result (let entries = map (entry_by cycle slot frame.now.sender (spelling frame.now)) (map (piece_value (spelling frame.now)) pieces.new.items) in
+    ensures sent { OnOk result
+        (let entries = map (entry_by cycle slot frame.now.sender (spelling frame.now))
+        (map (piece_value (spelling frame.now)) pieces.new.items) in
         AreCarried B.may (B.seen bus.old).script (B.seen bus.old).log (B.seen bus.new).log (spelling frame.now)
         (carries_from cycle slot frame.now.sender (receiver_numbers receivers)) entries) }
-    ensures some { OnErr result (let entries = map (entry_by cycle slot frame.now.sender (spelling frame.now)) (map (piece_value (spelling frame.now)) pieces.new.items) in
+    ensures some { OnErr result
+        (let entries = map (entry_by cycle slot frame.now.sender (spelling frame.now))
+        (map (piece_value (spelling frame.now)) pieces.new.items) in
         AreCarried B.may (B.seen bus.old).script (B.seen bus.old).log (B.seen bus.new).log (spelling frame.now)
         (take (length entries) (carries_from cycle slot frame.now.sender (receiver_numbers receivers))) entries) }
     ensures marked { AllByRecursion (IsMarked (spelling frame.now)) pieces.new.items }
@@ -107,7 +122,8 @@ fn carried<B: Bus>(
 
 /// The senders of whom a piece was not delivered as sent.
 fn charged_of(parcels: &[Parcel]) -> ChanSet
-    ensures { (c : ℕ) (slot : Slot) → result ≡ channels_where (λ q. list_any (is_charge c slot q) (entries_of_all c slot parcels.now)) }
+    ensures { (c : ℕ) (slot : Slot) →
+        result ≡ channels_where (λ q. list_any (is_charge c slot q) (entries_of_all c slot parcels.now)) }
 {
     let Some((parcel, rest)) = parcels.split_first() else {
         return ChanSet::empty();
@@ -146,7 +162,8 @@ fn opened(alloc: Global, parcels: Vec<Parcel>) -> Result<Sequence<Opened>, Alloc
 
 /// The frame that the first piece between these two spells.
 fn frame_between(parcels: &[Opened], from: Chan, to: u8) -> Option<&Frame>
-    ensures same { (c : ℕ) (slot : Slot) → option_copied result ≡ option_and_then frame_in (option_and_then (λ e. e.delivered)
+    ensures same { (c : ℕ) (slot : Slot) →
+        option_copied result ≡ option_and_then frame_in (option_and_then (λ e. e.delivered)
         (find (is_carry c slot from to) (entries_of_all c slot parcels.now))) }
     ensures range { IfSome result (λ frame. IsTrue (in_range frame.now)) }
 {
@@ -182,9 +199,11 @@ impl Traffic {
     ) -> Result<(), AllocError>
         requires { IsTrue (in_range frame) }
         ensures script { (B.seen bus.new).script ≡ (B.seen bus.old).script }
-        ensures sent { OnOk result (SendsFrame B.may (B.seen bus.old).script (B.seen bus.old).log (B.seen bus.new).log (spelling frame)
+        ensures sent { OnOk result
+            (SendsFrame B.may (B.seen bus.old).script (B.seen bus.old).log (B.seen bus.new).log (spelling frame)
             (carries_from self.old.cycle self.old.slot frame.sender (receiver_numbers receivers)) self.old self.new) }
-        ensures some { OnErr result (SendsFirstOfFrame B.may (B.seen bus.old).script (B.seen bus.old).log (B.seen bus.new).log (spelling frame)
+        ensures some { OnErr result
+            (SendsFirstOfFrame B.may (B.seen bus.old).script (B.seen bus.old).log (B.seen bus.new).log (spelling frame)
             (carries_from self.old.cycle self.old.slot frame.sender (receiver_numbers receivers)) self.old self.new) }
     {
         self.parcels.reserve(1)?;
@@ -245,12 +264,14 @@ impl Traffic {
 }
 
 impl Arrived {
-    /// What a receiver, a channel or 7 for the switchboard, received of a sender: nothing where nothing was carried between
-    /// them or delivered, or where it does not count.
+    /// What a receiver, a channel or 7 for the switchboard, received of a sender: nothing where nothing was carried
+    /// between them or delivered, or where it does not count.
     pub fn body(&self, from: Chan, to: u8) -> Option<&Body>
         ensures received { option_map view_body (option_copied result)
-            ≡ counted_body self.now.format self.now.traffic.entries self.now.traffic.cycle self.now.traffic.slot from to }
-        ensures range { IfSome result (λ body. IsTrue (body_in_range self.now.format.version from (view_body body.now))) }
+            ≡ counted_body self.now.format self.now.traffic.entries self.now.traffic.cycle self.now.traffic.slot from
+            to }
+        ensures range { IfSome result
+            (λ body. IsTrue (body_in_range self.now.format.version from (view_body body.now))) }
     {
         let frame = frame_between(self.parcels.as_slice(), from, to)?;
         if self.format.counts(self.cycle, self.slot, from, to, frame) {
@@ -262,7 +283,8 @@ impl Arrived {
     /// Whatever counts is in range of the format's version: its frame was read.
     pub fn fits(&self)
         ensures { (from to : ℕ) (body : BodyValue) →
-            counted_body self.now.format self.now.traffic.entries self.now.traffic.cycle self.now.traffic.slot from to ≡ Some body →
+            counted_body self.now.format self.now.traffic.entries self.now.traffic.cycle self.now.traffic.slot from to
+            ≡ Some body →
             body_in_range self.now.format.version from body ≡ true }
     {
         let _slot = self.slot;

@@ -26,11 +26,13 @@ times_sweep (Task ∷ h) = omega (arith, times_sweep h, sum_by-cons (λ x. cond 
 times_sweep (Sweep ∷ h) = omega (arith, times_sweep h, sum_by-cons (λ x. cond (is_sweep x) 1 0) Sweep h)
 
 -- one step more, written as a number
-pub actors_more : (steps : List ℕ) (step : ℕ) → actors_of (steps ++ step ∷ []) ≡ actors_of steps ++ actors_of (step ∷ [])
+pub actors_more : (steps : List ℕ) (step : ℕ) →
+    actors_of (steps ++ step ∷ []) ≡ actors_of steps ++ actors_of (step ∷ [])
 actors_more steps step = map-append _ steps (step ∷ [])
 
 -- steps that are written by their numbers, with one more
-pub numbers_more : (steps : List ℕ) (step : ℕ) → step ≡ step_number (actor_of_step step) → steps ≡ map step_number (actors_of steps)
+pub numbers_more : (steps : List ℕ) (step : ℕ) → step ≡ step_number (actor_of_step step) →
+    steps ≡ map step_number (actors_of steps)
     → steps ++ step ∷ [] ≡ map step_number (actors_of (steps ++ step ∷ []))
 numbers_more steps step one before =
     ap (λ l. l ++ step ∷ []) before
@@ -53,28 +55,36 @@ places_same n (Task ∷ h) = places_same (n + 1) h
 places_same n (Sweep ∷ h) = ap (λ (l : List ℕ). n ∷ l) (places_same n h)
 
 module _ (o : Origin) where
-  pub context_after : (h : List Actor) (context new : ContextValue) (n : ℕ) (w : WriteValue) → context ≡ context_of_replay o h → n ≡ times Task h
-      → slice_get o.row n ≡ Some w → new ≡ written w context o.inputs o.cycle → new ≡ context_of_replay o (h ++ Task ∷ [])
+  pub context_after : (h : List Actor) (context new : ContextValue) (n : ℕ) (w : WriteValue) →
+      context ≡ context_of_replay o h → n ≡ times Task h
+      → slice_get o.row n ≡ Some w → new ≡ written w context o.inputs o.cycle →
+      new ≡ context_of_replay o (h ++ Task ∷ [])
   context_after h context new n w before count here after =
       after ∙ ap (λ (c : ContextValue). written w c o.inputs o.cycle) before
-      ∙ ap (λ (s : Option WriteValue). written_if s (context_of_replay o h) o.inputs o.cycle) (sym here ∙ ap (slice_get o.row) (count ∙ times_task h))
+      ∙ ap (λ (s : Option WriteValue). written_if s (context_of_replay o h) o.inputs o.cycle)
+      (sym here ∙ ap (slice_get o.row) (count ∙ times_task h))
       ∙ ap (context_at o) (sym (tasks_more h))
 
-  pub copies_after_write : (h : List Actor) (copies : List CopyValue) → copies ≡ copies_of_replay o h → copies ≡ copies_of_replay o (h ++ Task ∷ [])
+  pub copies_after_write : (h : List Actor) (copies : List CopyValue) → copies ≡ copies_of_replay o h →
+      copies ≡ copies_of_replay o (h ++ Task ∷ [])
   copies_after_write h copies before = before ∙ ap (copies_at o o.plan) (sym (places_same 0 h))
 
 -- ---- a copy
 
-places_more : (n : ℕ) (h : List Actor) → writes_before_from n (h ++ Sweep ∷ []) ≡ writes_before_from n h ++ (n + times Task h) ∷ []
+places_more : (n : ℕ) (h : List Actor) →
+    writes_before_from n (h ++ Sweep ∷ []) ≡ writes_before_from n h ++ (n + times Task h) ∷ []
 places_more n [] = ap (λ k. k ∷ []) same
   where
     same : n ≡ n + 0
     same = omega arith
-places_more n (Task ∷ h) = places_more (n + 1) h ∙ ap (λ k. writes_before_from (n + 1) h ++ k ∷ []) (next (times Task h))
+places_more n (Task ∷ h) =
+    places_more (n + 1) h ∙ ap (λ k. writes_before_from (n + 1) h ++ k ∷ []) (next (times Task h))
   where
     next : (k : ℕ) → (n + 1) + k ≡ n + (1 + k)
     next k = omega arith
-places_more n (Sweep ∷ h) = ap (λ (l : List ℕ). n ∷ l) (places_more n h) ∙ ap (λ k. n ∷ (writes_before_from n h ++ k ∷ [])) (same (times Task h))
+places_more n (Sweep ∷ h) =
+    ap (λ (l : List ℕ). n ∷ l) (places_more n h)
+    ∙ ap (λ k. n ∷ (writes_before_from n h ++ k ∷ [])) (same (times Task h))
   where
     same : (k : ℕ) → n + k ≡ n + (0 + k)
     same k = omega arith
@@ -96,20 +106,25 @@ module _ (o : Origin) where
   copies_more : (plan places : List ℕ) (p b : ℕ) → slice_get plan (length places) ≡ Some b
       → copies_at o plan (places ++ p ∷ []) ≡ copies_at o plan places ++ copy_at b p ∷ []
   copies_more [] places p b here = absurd cc
-  copies_more (x ∷ plan) [] p b here = ap (λ (l : List CopyValue). copy_at x p ∷ l) (no_copies plan) ∙ ap (λ k. copy_at k p ∷ []) (inside here)
+  copies_more (x ∷ plan) [] p b here =
+      ap (λ (l : List CopyValue). copy_at x p ∷ l) (no_copies plan) ∙ ap (λ k. copy_at k p ∷ []) (inside here)
     where
       inside : Some x ≡ Some b → x ≡ b
       inside h = cc
-  copies_more (x ∷ plan) (q ∷ places) p b here = ap (λ (l : List CopyValue). copy_at x q ∷ l) (copies_more plan places p b here)
+  copies_more (x ∷ plan) (q ∷ places) p b here =
+      ap (λ (l : List CopyValue). copy_at x q ∷ l) (copies_more plan places p b here)
 
-  pub copies_after : (h : List Actor) (copies : List CopyValue) (k b : ℕ) (context : ContextValue) (words : List ℤ) → copies ≡ copies_of_replay o h → k ≡ times Sweep h
+  pub copies_after : (h : List Actor) (copies : List CopyValue) (k b : ℕ) (context : ContextValue) (words : List ℤ) →
+      copies ≡ copies_of_replay o h → k ≡ times Sweep h
       → slice_get o.plan k ≡ Some b → context ≡ context_of_replay o h → slice_get context b ≡ Some words
       → copies ++ record { block = b; words = words } ∷ [] ≡ copies_of_replay o (h ++ Sweep ∷ [])
   copies_after h copies k b context words before count here now found =
       let places = writes_before_from 0 h in
       let same : words ≡ block_at (context_at o (0 + times Task h)) b =
-      ap (λ w. unwrap_or w zero_block) (sym found) ∙ ap (λ (c : ContextValue). block_at c b) (now ∙ ap (context_at o) (writes h)) in
-      let there : slice_get o.plan (length places) ≡ Some b = ap (slice_get o.plan) (length-places 0 h ∙ sym count) ∙ here in
+      ap (λ w. unwrap_or w zero_block) (sym found)
+      ∙ ap (λ (c : ContextValue). block_at c b) (now ∙ ap (context_at o) (writes h)) in
+      let there : slice_get o.plan (length places) ≡ Some b =
+      ap (slice_get o.plan) (length-places 0 h ∙ sym count) ∙ here in
       ap (λ (w : List ℤ). copies ++ record { block = b; words = w } ∷ []) same
       ∙ ap (λ (l : List CopyValue). l ++ copy_at b (0 + times Task h) ∷ []) before
       ∙ sym (copies_more o.plan places (0 + times Task h) b there)
@@ -118,24 +133,30 @@ module _ (o : Origin) where
       writes : (h : List Actor) → count_by is_task h ≡ 0 + times Task h
       writes h = omega (arith, times_task h)
 
-  pub context_same : (h : List Actor) (context : ContextValue) → context ≡ context_of_replay o h → context ≡ context_of_replay o (h ++ Sweep ∷ [])
+  pub context_same : (h : List Actor) (context : ContextValue) → context ≡ context_of_replay o h →
+      context ≡ context_of_replay o (h ++ Sweep ∷ [])
   context_same h context before = before ∙ ap (context_at o) (sym (tasks_same h))
 
 -- ---- a round's facts
 
 module _ (o : Origin) where
   -- before the first step
-  pub nothing_done : (context : ContextValue) (copies : List CopyValue) → context ≡ o.context → copies ≡ [] → IsReplay o [] context copies
+  pub nothing_done : (context : ContextValue) (copies : List CopyValue) → context ≡ o.context → copies ≡ [] →
+      IsReplay o [] context copies
   nothing_done context copies same none = record { context_is = same; copies_are = none ∙ sym (no_copies o o.plan) }
 
   -- what a write leaves
-  pub record Wrote (steps : List ℕ) (context new : ContextValue) (copies : List CopyValue) (writes made : ℕ) : Type 0 where
+  pub record Wrote (steps : List ℕ) (context new : ContextValue) (copies : List CopyValue) (writes made : ℕ) : Type
+      0 where
     pub replay : IsReplay o (actors_of (steps ++ 0 ∷ [])) new copies
     pub made_are : AreMade o (actors_of (steps ++ 0 ∷ [])) (writes + 1) made
     pub length_is : length new ≡ length context
 
-  pub wrote : (steps : List ℕ) (context new : ContextValue) (copies : List CopyValue) (writes made block : ℕ) → IsReplay o (actors_of steps) context copies → AreMade o (actors_of steps) writes made
-      → writes < length o.row → IsSomeAnd (slice_get o.row writes) (λ w. (new ≡ written w context o.inputs o.cycle) × (block ≡ w.block)) → Wrote steps context new copies writes made
+  pub wrote : (steps : List ℕ) (context new : ContextValue) (copies : List CopyValue) (writes made block : ℕ) →
+      IsReplay o (actors_of steps) context copies → AreMade o (actors_of steps) writes made
+      → writes < length o.row →
+      IsSomeAnd (slice_get o.row writes) (λ w. (new ≡ written w context o.inputs o.cycle) × (block ≡ w.block)) →
+      Wrote steps context new copies writes made
   wrote steps context new copies writes made block before count low found = at_write (slice_get o.row writes) refl found
     where
       h : List Actor
@@ -144,7 +165,9 @@ module _ (o : Origin) where
       more : actors_of (steps ++ 0 ∷ []) ≡ h ++ Task ∷ []
       more = actors_more steps 0
 
-      at_write : (at : Option WriteValue) → slice_get o.row writes ≡ at → IsSomeAnd at (λ w. (new ≡ written w context o.inputs o.cycle) × (block ≡ w.block)) → Wrote steps context new copies writes made
+      at_write : (at : Option WriteValue) → slice_get o.row writes ≡ at →
+          IsSomeAnd at (λ w. (new ≡ written w context o.inputs o.cycle) × (block ≡ w.block)) →
+          Wrote steps context new copies writes made
       at_write None e f = absurd f
       at_write (Some w) e f =
           record {
@@ -162,24 +185,29 @@ module _ (o : Origin) where
                   few_writes = omega (arith, low);
                   few_copies = count.few_copies;
                 });
-            length_is = ap length f.0 ∙ length-set context w.block (replaced w.set (block_at context w.block) context o.inputs o.cycle);
+            length_is = ap length f.0
+                ∙ length-set context w.block (replaced w.set (block_at context w.block) context o.inputs o.cycle);
           }
 
   -- what a copy leaves
-  pub record Copied (steps : List ℕ) (context : ContextValue) (copies : List CopyValue) (copy : CopyValue) (writes made : ℕ) : Type 0 where
+  pub record Copied (steps : List ℕ) (context : ContextValue) (copies : List CopyValue) (copy : CopyValue)
+      (writes made : ℕ) : Type 0 where
     pub replay : IsReplay o (actors_of (steps ++ 1 ∷ [])) context (copies ++ copy ∷ [])
     pub made_are : AreMade o (actors_of (steps ++ 1 ∷ [])) writes (made + 1)
 
-  pub copied : (steps : List ℕ) (context : ContextValue) (copies : List CopyValue) (writes made block : ℕ) (words : BlockValue) → IsReplay o (actors_of steps) context copies → AreMade o (actors_of steps) writes made
+  pub copied : (steps : List ℕ) (context : ContextValue) (copies : List CopyValue) (writes made block : ℕ)
+      (words : BlockValue) → IsReplay o (actors_of steps) context copies → AreMade o (actors_of steps) writes made
       → made < length o.plan → slice_get o.plan made ≡ Some block → slice_get context block ≡ Some words
       → Copied steps context copies (record { block = block; words = words }) writes made
   copied steps context copies writes made block words before count low planned found =
       record {
         replay =
-            subst (λ (l : List Actor). IsReplay o l context (copies ++ record { block = block; words = words } ∷ [])) (sym more)
+            subst (λ (l : List Actor). IsReplay o l context (copies ++ record { block = block; words = words } ∷ []))
+            (sym more)
             (record {
               context_is = context_same o h context before.context_is;
-              copies_are = copies_after o h copies made block context words before.copies_are count.copies_are planned before.context_is found;
+              copies_are = copies_after o h copies made block context words before.copies_are count.copies_are planned
+                  before.context_is found;
             });
         made_are =
             subst (λ (l : List Actor). AreMade o l writes (made + 1)) (sym more)
@@ -198,7 +226,8 @@ module _ (o : Origin) where
       more = actors_more steps 1
 
   -- after all writes
-  pub whole_done : (h : List Actor) (context : ContextValue) (copies : List CopyValue) → IsReplay o h context copies → times Task h ≡ length o.row → context ≡ whole o.row o.context o.cycle o.inputs
+  pub whole_done : (h : List Actor) (context : ContextValue) (copies : List CopyValue) → IsReplay o h context copies →
+      times Task h ≡ length o.row → context ≡ whole o.row o.context o.cycle o.inputs
   whole_done h context copies replay full = replay.context_is ∙ ap (context_at o) (sym (times_task h) ∙ full)
 
   pub is_full : (h : List Actor) → times Task h ≡ length o.row → times Sweep h ≡ length o.plan → IsFull o h

@@ -18,17 +18,21 @@ pub record IsFinished (s : RoundStart) (history : List Actor) (f : Finished) : T
   pub steps_are : trail_steps f.history ≡ history
   pub cycle_is : trail_cycle f.history ≡ s.cycle
 
--- what is left of a value after all its steps: of some last value with the same origin, whose history has all that are due
-pub record IsEndOf {T O : Type 0} (origin : T → O) (history : T → List Actor) (due : O → Actor → ℕ) (finished : T → Finished → Type 0) (value : T) (f : Finished) : Type 0 where
+-- what is left of a value after all its steps: of some last value with the same origin, whose history has all that are
+-- due
+pub record IsEndOf {T O : Type 0} (origin : T → O) (history : T → List Actor) (due : O → Actor → ℕ)
+    (finished : T → Finished → Type 0) (value : T) (f : Finished) : Type 0 where
   pub last : T
   pub origin_is : origin last ≡ origin value
   pub full : (a : Actor) → times a (history last) ≡ due (origin value) a
   pub finished_is : finished last f
 
--- A round that started so has ended: its trail has all steps, the context is the whole row's effect, and the copies are the replay of the trail.
+-- A round that started so has ended: its trail has all steps, the context is the whole row's effect, and the copies are
+-- the replay of the trail.
 pub record IsEnded (s : RoundStart) (f : Finished) : Type 0 where
   pub full : IsFull (start_origin s) (trail_steps f.history)
-  pub context_is : f.context ≡ whole (start_origin s).row (start_origin s).context (start_origin s).cycle (start_origin s).inputs
+  pub context_is : f.context
+      ≡ whole (start_origin s).row (start_origin s).context (start_origin s).cycle (start_origin s).inputs
   pub copies_are : sent f.feed ≡ copies_of_replay (start_origin s) (trail_steps f.history)
   pub pipe_is : feed_name f.feed ≡ s.pipe
   pub cycle_is : trail_cycle f.history ≡ s.cycle

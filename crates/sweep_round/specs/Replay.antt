@@ -11,14 +11,16 @@ use Rattle.task_table.specs.Tables.{TableValue, table_writes}
 
 -- the origin of a round of a cycle: its context, the writes of the cycle's row, the inputs and the plan
 abbrev pub origin_of : ContextValue → TableValue → ℕ → List ℤ → List ℕ → Origin
-origin_of context table cycle inputs plan = record { context = context; row = table_writes table cycle; cycle = cycle; inputs = inputs; plan = plan }
+origin_of context table cycle inputs plan =
+    record { context = context; row = table_writes table cycle; cycle = cycle; inputs = inputs; plan = plan }
 
 -- the actors of steps that are written as numbers
 abbrev pub actors_of : List ℕ → List Actor
 actors_of steps = map actor_of_step steps
 
 -- the context and the copies are the replay of the history
-pub record IsReplay (o : Origin) (history : List Actor) (context : ContextValue) (copies : List CopyValue) : Type 0 where
+pub record IsReplay (o : Origin) (history : List Actor) (context : ContextValue) (copies : List CopyValue) : Type
+    0 where
   pub context_is : context ≡ context_of_replay o history
   pub copies_are : copies ≡ copies_of_replay o history
 

@@ -21,7 +21,14 @@ due_steps s Sweep = length s.plan
 module _ {C : Type 0} where
   -- what the round started from
   abbrev pub round_start : Round C → RoundStart
-  round_start r = record { context = r.start; table = r.table.now; cycle = r.cycle; inputs = r.inputs; plan = r.plan; pipe = feed_name r.feed }
+  round_start r = record {
+    context = r.start;
+    table = r.table.now;
+    cycle = r.cycle;
+    inputs = r.inputs;
+    plan = r.plan;
+    pipe = feed_name r.feed;
+  }
 
   -- the steps that were made, in order
   abbrev pub round_history : Round C → List Actor

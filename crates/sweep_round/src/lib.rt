@@ -1,5 +1,5 @@
-//! A channel's round of work in a cycle: the writes of the cycle's row and the copies of the plan, in whatever order two
-//! workers make them under the context lock. What they did is the replay of one history.
+//! A channel's round of work in a cycle: the writes of the cycle's row and the copies of the plan, in whatever order
+//! two workers make them under the context lock. What they did is the replay of one history.
 #![tactic(auto)]
 
 mod ending;

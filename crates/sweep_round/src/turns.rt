@@ -37,12 +37,14 @@ pub struct Round<'a, C: Calls> {
     copies: usize,
     ghost due_is: { (due ≡ length (table_writes table.now cycle)) × (due ≤ 256) },
     ghost few: { (length (table_writes table.now cycle) < 2 ^ 32) × (length plan < 2 ^ 32) },
-    ghost replay: { IsReplay (origin_of start table.now cycle inputs plan) (actors_of history.items) context feed.producer.end.past },
+    ghost replay: { IsReplay (origin_of start table.now cycle inputs plan) (actors_of history.items) context
+        feed.producer.end.past },
     ghost made: { AreMade (origin_of start table.now cycle inputs plan) (actors_of history.items) writes copies },
     ghost numbers: { history.items ≡ map step_number (actors_of history.items) },
     ghost steps: { length history.items ≡ writes + copies },
     ghost room: { due + length plan ≤ length history.items + history.spare },
-    ghost blocks: { (length context ≡ table.now.blocks) × (length start ≡ table.now.blocks) × All (λ b. b < table.now.blocks) plan },
+    ghost blocks: { (length context ≡ table.now.blocks) × (length start ≡ table.now.blocks)
+        × All (λ b. b < table.now.blocks) plan },
     ghost pipe: { (copies ≡ length feed.producer.end.past) × (length plan ≤ feed.producer.capacity) },
 }
 
@@ -66,7 +68,15 @@ impl<'a, C: Calls> Round<'a, C> {
         requires planned { All (λ b. b < length ctx) plan }
         requires fresh { sent feed ≡ [] }
         requires room { length plan ≤ capacity feed }
-        ensures start { IfOk result (λ r. round_start r ≡ record { context = ctx; table = table.now; cycle = cycle; inputs = inputs; plan = plan; pipe = feed_name feed }) }
+        ensures start { IfOk result
+            (λ r. round_start r ≡ record {
+              context = ctx;
+              table = table.now;
+              cycle = cycle;
+              inputs = inputs;
+              plan = plan;
+              pipe = feed_name feed;
+            }) }
         ensures empty { IfOk result (λ r. round_history r ≡ []) }
         ensures refused { IfErr result (λ e. e.value ≡ ctx) }
     {
@@ -98,7 +108,10 @@ impl<'a, C: Calls> Round<'a, C> {
     pub fn write_step(&mut self) -> bool
         ensures start { round_start self.new ≡ round_start self.old }
         ensures replay { IsReplayed self.new }
-        ensures stepped { MatchBool result ((round_history self.new ≡ round_history self.old ++ Task ∷ []) × (times Task (round_history self.old) < due_steps (round_start self.old) Task)) ((self.new ≡ self.old) × (due_steps (round_start self.old) Task ≤ times Task (round_history self.old))) }
+        ensures stepped { MatchBool result
+            ((round_history self.new ≡ round_history self.old ++ Task ∷ [])
+            × (times Task (round_history self.old) < due_steps (round_start self.old) Task))
+            ((self.new ≡ self.old) × (due_steps (round_start self.old) Task ≤ times Task (round_history self.old))) }
     {
         if self.writes >= self.due {
             return false;
@@ -120,7 +133,10 @@ impl<'a, C: Calls> Round<'a, C> {
     pub fn sweep_step(&mut self) -> bool
         ensures start { round_start self.new ≡ round_start self.old }
         ensures replay { IsReplayed self.new }
-        ensures stepped { MatchBool result ((round_history self.new ≡ round_history self.old ++ Sweep ∷ []) × (times Sweep (round_history self.old) < due_steps (round_start self.old) Sweep)) ((self.new ≡ self.old) × (due_steps (round_start self.old) Sweep ≤ times Sweep (round_history self.old))) }
+        ensures stepped { MatchBool result
+            ((round_history self.new ≡ round_history self.old ++ Sweep ∷ [])
+            × (times Sweep (round_history self.old) < due_steps (round_start self.old) Sweep))
+            ((self.new ≡ self.old) × (due_steps (round_start self.old) Sweep ≤ times Sweep (round_history self.old))) }
     {
         if self.copies >= self.plan.len() {
             return false;

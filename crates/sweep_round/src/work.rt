@@ -46,8 +46,9 @@ fn run_round<'a, C: Calls + Sync, G: Gate, R: Threads + Wait + Sync>(
 }
 
 /// Does a cycle's writes and copies by two workers under the lock, with a framer beside them that tries at most four
-/// times a copy and four times more; where no copies are due, by this thread alone. Whatever the order of the steps, they are all that are due, the context is the whole
-/// row's effect, and the copies are the replay of just these steps. For want of memory the context comes back as it was.
+/// times a copy and four times more; where no copies are due, by this thread alone. Whatever the order of the steps,
+/// they are all that are due, the context is the whole row's effect, and the copies are the replay of just these steps.
+/// For want of memory the context comes back as it was.
 pub fn work_round<'a, C: Calls + Sync, G: Gate, R: Threads + Wait + Sync>(
     rt: &R,
     alloc: Global,
@@ -64,8 +65,10 @@ pub fn work_round<'a, C: Calls + Sync, G: Gate, R: Threads + Wait + Sync>(
     requires planned { All (λ b. b < length ctx) plan }
     ensures full { IfOk result (λ w. IsFull (origin_of ctx table.now cycle inputs plan) (trail_steps w.history)) }
     ensures cycle { IfOk result (λ w. trail_cycle w.history ≡ cycle) }
-    ensures context { IfOk result (λ w. let o = origin_of ctx table.now cycle inputs plan in w.context ≡ whole o.row o.context o.cycle o.inputs) }
-    ensures copies { IfOk result (λ w. w.copies.items ≡ copies_of_replay (origin_of ctx table.now cycle inputs plan) (trail_steps w.history)) }
+    ensures context { IfOk result
+        (λ w. let o = origin_of ctx table.now cycle inputs plan in w.context ≡ whole o.row o.context o.cycle o.inputs) }
+    ensures copies { IfOk result
+        (λ w. w.copies.items ≡ copies_of_replay (origin_of ctx table.now cycle inputs plan) (trail_steps w.history)) }
     ensures refused { IfErr result (λ e. e.value ≡ ctx) }
 {
     let planned = plan.len();

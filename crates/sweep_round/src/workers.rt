@@ -18,9 +18,9 @@ use std::marker::Model;
 use std::sync::Wait;
 use std::thread::{self, Threads, join};
 
-/// What the workers of a channel need beside the value: its number for the gate, where memory for the lock comes from, and
-/// the framer of a pipe, which tries so often to take a copy while they work, and never waits. Where it is not to try at all,
-/// no copies are due, and the workers need no threads of their own. Contracts see the name of the pipe.
+/// What the workers of a channel need beside the value: its number for the gate, where memory for the lock comes from,
+/// and the framer of a pipe, which tries so often to take a copy while they work, and never waits. Where it is not to
+/// try at all, no copies are due, and the workers need no threads of their own. Contracts see the name of the pipe.
 #[derive(Drop)]
 pub struct Crew {
     alloc: Global,
@@ -117,9 +117,9 @@ fn try_often(mut framer: Framer, tries: usize) -> Framer
     framer
 }
 
-/// Two workers side by side make all steps that are due, and beside them a framer, which starts first, tries to take copies;
-/// where it is not to try, this thread makes all the steps. The value comes closed, with the framer; for want of memory the
-/// value comes back as it was.
+/// Two workers side by side make all steps that are due, and beside them a framer, which starts first, tries to take
+/// copies; where it is not to try, this thread makes all the steps. The value comes closed, with the framer; for want
+/// of memory the value comes back as it was.
 pub fn work_beside<T: Turned, G: Gate, R: Threads + Wait + Sync>(
     rt: &R,
     value: T,
@@ -152,9 +152,9 @@ pub fn work_beside<T: Turned, G: Gate, R: Threads + Wait + Sync>(
     Ok((shared.close(task, sweep), crew))
 }
 
-/// The same, and the value's end: what is left of it after all steps that are due, with the framer; or, for want of memory,
-/// the context from which it began. Two options stand for the two cases, since the prover finds that a value of many parts
-/// may cross threads where they do, and not beside a `Result`.
+/// The same, and the value's end: what is left of it after all steps that are due, with the framer; or, for want of
+/// memory, the context from which it began. Two options stand for the two cases, since the prover finds that a value of
+/// many parts may cross threads where they do, and not beside a `Result`.
 pub fn work_ended<T: Finishing, G: Gate, R: Threads + Wait + Sync>(
     rt: &R,
     value: T,

@@ -7,13 +7,16 @@ use Rattle.task_table.specs.declared.fault.TableFault.{TableFault}
 use Rattle.task_table.specs.TableFaults.{fault_or, first_fault}
 
 -- from a place on, a list begins with the element there
-pub at_place : {A : Type 0} (xs : List A) (at : ℕ) (x : A) → slice_get xs at ≡ Some x → drop at xs ≡ x ∷ drop (at + 1) xs
-at_place xs at x h = drop-cons xs at x (slice_get_within xs at x h) ∙ ap (λ y. y ∷ drop (suc at) xs) (get_or_from_slice_get xs at x x h) ∙ ap (λ n. x ∷ drop n xs) next
+pub at_place : {A : Type 0} (xs : List A) (at : ℕ) (x : A) → slice_get xs at ≡ Some x →
+    drop at xs ≡ x ∷ drop (at + 1) xs
+at_place xs at x h = drop-cons xs at x (slice_get_within xs at x h)
+    ∙ ap (λ y. y ∷ drop (suc at) xs) (get_or_from_slice_get xs at x x h) ∙ ap (λ n. x ∷ drop n xs) next
   where
     next : suc at ≡ at + 1
     next = omega arith
 
-pub fault_at : {A : Type 0} (check : ℕ → A → Option TableFault) (xs : List A) (at : ℕ) (x : A) → slice_get xs at ≡ Some x →
+pub fault_at : {A : Type 0} (check : ℕ → A → Option TableFault) (xs : List A) (at : ℕ) (x : A) →
+    slice_get xs at ≡ Some x →
     first_fault check at (drop at xs) ≡ fault_or (check at x) (first_fault check (at + 1) (drop (at + 1) xs))
 fault_at check xs at x h = ap (first_fault check at) (at_place xs at x h)
 

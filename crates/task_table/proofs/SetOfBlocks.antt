@@ -52,13 +52,18 @@ pub one_added : (test : ℕ → Bool) (xs : List ℕ) (w : ℕ) (set : List ℕ)
     blocks_where (λ b. b == w || has set b) ≡ blocks_where (λ b. test b || has (xs ++ w ∷ []) b)
 one_added test xs w set is =
     where_alike 256 (λ b. b == w || has set b) (λ b. test b || has (xs ++ w ∷ []) b)
-    (λ b low. ap (λ h. (b == w) || h) (ap (λ s. has s b) is ∙ where_has 256 (λ b. test b || has xs b) b low) ∙ turned w b (test b) (has xs b) ∙ ap (λ h. test b || h) (sym (has-append xs (w ∷ []) b)))
+    (λ b low. ap (λ h. (b == w) || h) (ap (λ s. has s b) is ∙ where_has 256 (λ b. test b || has xs b) b low)
+    ∙ turned w b (test b) (has xs b) ∙ ap (λ h. test b || h) (sym (has-append xs (w ∷ []) b)))
 
 -- the blocks of one more write
-pub blocks_more : (writes : List WriteValue) (at : ℕ) (write : WriteValue) → at < length writes → write ≡ get_or writes at write → blocks_in (take (at + 1) writes) ≡ blocks_in (take at writes) ++ write.block ∷ []
+pub blocks_more : (writes : List WriteValue) (at : ℕ) (write : WriteValue) → at < length writes →
+    write ≡ get_or writes at write → blocks_in (take (at + 1) writes) ≡ blocks_in (take at writes) ++ write.block ∷ []
 blocks_more writes at write low is =
-    ap blocks_in (take_more writes at write low) ∙ map-append (λ (w : WriteValue). w.block) (take at writes) (get_or writes at write ∷ [])
+    ap blocks_in (take_more writes at write low)
+    ∙ map-append (λ (w : WriteValue). w.block) (take at writes) (get_or writes at write ∷ [])
     ∙ ap (λ (w : WriteValue). blocks_in (take at writes) ++ w.block ∷ []) (sym is)
 
-pub low_more : (xs : List ℕ) (w : ℕ) → list_all (λ b. nat_lt b 256) xs ≡ true → w < 256 → list_all (λ b. nat_lt b 256) (xs ++ w ∷ []) ≡ true
-low_more xs w all low = all-append (λ b. nat_lt b 256) xs (w ∷ []) all (and_true (nat_lt w 256) true (le-leb (suc w) 256 (omega (arith, low))) refl)
+pub low_more : (xs : List ℕ) (w : ℕ) → list_all (λ b. nat_lt b 256) xs ≡ true → w < 256 →
+    list_all (λ b. nat_lt b 256) (xs ++ w ∷ []) ≡ true
+low_more xs w all low = all-append (λ b. nat_lt b 256) xs (w ∷ []) all
+    (and_true (nat_lt w 256) true (le-leb (suc w) 256 (omega (arith, low))) refl)

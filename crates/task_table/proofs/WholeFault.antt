@@ -28,18 +28,25 @@ is_within high n h few = and_true (nat_le 1 n) (nat_le n high) (le-leb 1 n some)
 
 module _ (blocks : ℕ) (tasks : List TaskValue) (rows : List (List ℕ)) where
   abbrev rest : Option TableFault
-  rest = fault_or (first_fault (task_fault blocks) 0 tasks) (cond (within 1 16 (length rows)) (first_fault row_fault 0 rows) (Some Rows))
+  rest = fault_or (first_fault (task_fault blocks) 0 tasks)
+      (cond (within 1 16 (length rows)) (first_fault row_fault 0 rows) (Some Rows))
 
   pub wrong_tasks : within 1 64 (length tasks) ≡ false → table_fault blocks tasks rows ≡ Some Tasks
   unfolding table_fault
   wrong_tasks h = ap (λ b. cond b rest (Some Tasks)) h
 
-  pub wrong_task : (o : Option TableFault) → within 1 64 (length tasks) ≡ true → first_fault (task_fault blocks) 0 tasks ≡ o → table_fault blocks tasks rows ≡ fault_or o (cond (within 1 16 (length rows)) (first_fault row_fault 0 rows) (Some Rows))
+  pub wrong_task : (o : Option TableFault) → within 1 64 (length tasks) ≡ true →
+      first_fault (task_fault blocks) 0 tasks ≡ o →
+      table_fault blocks tasks rows
+      ≡ fault_or o (cond (within 1 16 (length rows)) (first_fault row_fault 0 rows) (Some Rows))
   unfolding table_fault
-  wrong_task o h is = ap (λ b. cond b rest (Some Tasks)) h ∙ ap (λ o. fault_or o (cond (within 1 16 (length rows)) (first_fault row_fault 0 rows) (Some Rows))) is
+  wrong_task o h is = ap (λ b. cond b rest (Some Tasks)) h
+      ∙ ap (λ o. fault_or o (cond (within 1 16 (length rows)) (first_fault row_fault 0 rows) (Some Rows))) is
 
-  pub wrong_rows : within 1 64 (length tasks) ≡ true → first_fault (task_fault blocks) 0 tasks ≡ None → within 1 16 (length rows) ≡ false → table_fault blocks tasks rows ≡ Some Rows
+  pub wrong_rows : within 1 64 (length tasks) ≡ true → first_fault (task_fault blocks) 0 tasks ≡ None →
+      within 1 16 (length rows) ≡ false → table_fault blocks tasks rows ≡ Some Rows
   wrong_rows h is wrong = wrong_task None h is ∙ ap (λ b. cond b (first_fault row_fault 0 rows) (Some Rows)) wrong
 
-  pub wrong_row : within 1 64 (length tasks) ≡ true → first_fault (task_fault blocks) 0 tasks ≡ None → within 1 16 (length rows) ≡ true → table_fault blocks tasks rows ≡ first_fault row_fault 0 rows
+  pub wrong_row : within 1 64 (length tasks) ≡ true → first_fault (task_fault blocks) 0 tasks ≡ None →
+      within 1 16 (length rows) ≡ true → table_fault blocks tasks rows ≡ first_fault row_fault 0 rows
   wrong_row h is right = wrong_task None h is ∙ ap (λ b. cond b (first_fault row_fault 0 rows) (Some Rows)) right

@@ -35,7 +35,8 @@ tree-expr_of (input k) = tree_input k
 tree-expr_of (block_word i j) = tree_word i j
 tree-expr_of (negative a) = tree_neg (expr_of a) ∙ ap negative (tree-expr_of a)
 tree-expr_of (binary op a b) =
-    tree_binary op (expr_of a) (expr_of b) ∙ ap (λ x. binary op x (tree (expr_of b))) (tree-expr_of a) ∙ ap (binary op a) (tree-expr_of b)
+    tree_binary op (expr_of a) (expr_of b) ∙ ap (λ x. binary op x (tree (expr_of b))) (tree-expr_of a)
+    ∙ ap (binary op a) (tree-expr_of b)
 tree-expr_of (call code a b c) =
     tree_native code (expr_of a) (expr_of b) (expr_of c)
     ∙ ap (λ x. call code x (tree (expr_of b)) (tree (expr_of c))) (tree-expr_of a)
@@ -54,10 +55,12 @@ abbrev pub coded_sets : Coded (List (Option Expression))
 coded_sets = coded_list (coded_option coded_expression)
 
 abbrev pub coded_write : Coded WriteValue
-coded_write = code_by (ℕ × List (Option Expression)) (coded× coded_ℕ coded_sets) (λ w. (w.block, w.set)) (λ p. record { block = p.0; set = p.1 }) (λ _. refl)
+coded_write = code_by (ℕ × List (Option Expression)) (coded× coded_ℕ coded_sets) (λ w. (w.block, w.set))
+    (λ p. record { block = p.0; set = p.1 }) (λ _. refl)
 
 abbrev pub coded_task : Coded TaskValue
-coded_task = code_by (List ℕ × List WriteValue) (coded× (coded_list coded_ℕ) (coded_list coded_write)) (λ t. (t.name, t.writes)) (λ p. record { name = p.0; writes = p.1 }) (λ _. refl)
+coded_task = code_by (List ℕ × List WriteValue) (coded× (coded_list coded_ℕ) (coded_list coded_write))
+    (λ t. (t.name, t.writes)) (λ p. record { name = p.0; writes = p.1 }) (λ _. refl)
 
 abbrev pub coded_table : Coded TableValue
 coded_table =

@@ -19,7 +19,8 @@ first_fault check n (x ∷ xs) = fault_or (check n x) (first_fault check (n + 1)
 -- a write names a block that is there, and has an expression
 abbrev pub write_fault : ℕ → ℕ → ℕ → WriteValue → Option TableFault
 write_fault blocks task n write =
-    if nat_lt write.block blocks then (if list_any is_some write.set then None else Some (Set task n)) else Some (Block task n)
+    if nat_lt write.block blocks then (if list_any is_some write.set then None else Some (Set task n))
+    else Some (Block task n)
 
 -- a task has 1 to 16 writes
 abbrev pub task_fault : ℕ → ℕ → TaskValue → Option TableFault
@@ -34,5 +35,6 @@ row_fault n row = if nat_le (length row) 16 then None else Some (Row n)
 unfoldable pub table_fault : ℕ → List TaskValue → List (List ℕ) → Option TableFault
 table_fault blocks tasks rows =
     if within 1 64 (length tasks)
-    then fault_or (first_fault (task_fault blocks) 0 tasks) (if within 1 16 (length rows) then first_fault row_fault 0 rows else Some Rows)
+    then fault_or (first_fault (task_fault blocks) 0 tasks)
+    (if within 1 16 (length rows) then first_fault row_fault 0 rows else Some Rows)
     else Some Tasks

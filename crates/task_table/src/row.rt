@@ -64,7 +64,8 @@ pub(crate) fn find_write<'a>(tasks: &'a [Task], row: &[u32], k: usize) -> Option
 pub(crate) fn blocks_of(tasks: &[Task], row: &[u32]) -> BlockSet
     requires { IsTrue (names_tasks (length tasks.now) row.now) }
     ensures set { result ≡ blocks_where (has (map (λ write. write.block) (writes_of (named_tasks tasks.now row.now)))) }
-    ensures low { list_all (λ block. nat_lt block 256) (map (λ write. write.block) (writes_of (named_tasks tasks.now row.now))) ≡ true }
+    ensures low { list_all (λ block. nat_lt block 256)
+        (map (λ write. write.block) (writes_of (named_tasks tasks.now row.now))) ≡ true }
 {
     let mut blocks = BlockSet::empty();
     for place in row.iter() {
@@ -76,7 +77,8 @@ pub(crate) fn blocks_of(tasks: &[Task], row: &[u32]) -> BlockSet
 
 /// Adds the blocks of some writes.
 fn insert_blocks(blocks: &mut BlockSet, writes: &[Write])
-    ensures set { (test : ℕ → Bool) → blocks.old ≡ blocks_where test → blocks.new ≡ blocks_where (λ block. test block || has (map (λ write. write.block) writes.now) block) }
+    ensures set { (test : ℕ → Bool) → blocks.old ≡ blocks_where test →
+        blocks.new ≡ blocks_where (λ block. test block || has (map (λ write. write.block) writes.now) block) }
     ensures low { list_all (λ block. nat_lt block 256) (map (λ write. write.block) writes.now) ≡ true }
 {
     for write in writes.iter() {

@@ -41,13 +41,15 @@ impl Model for Table {
 }
 
 impl Table {
-    /// The table of these tasks and rows, for contexts of so many blocks and so many input words, or the first rule that they break.
+    /// The table of these tasks and rows, for contexts of so many blocks and so many input words, or the first rule
+    /// that they break.
     pub fn new(tasks: Tasks, rows: TaskRows, blocks: u16, width: u8) -> Result<Table, TableFault>
         requires narrow { width ≤ 4 }
         requires fit { IsTrue (list_all (expressions_fit blocks width) tasks.items) }
         requires named { IsTrue (list_all (names_tasks (length tasks.items)) (places_of rows.items)) }
         ensures answer { MatchResult result
-            (λ table. (table_fault blocks tasks.items (places_of rows.items) ≡ None) × (table ≡ table_naming tasks.items (places_of rows.items) blocks width))
+            (λ table. (table_fault blocks tasks.items (places_of rows.items) ≡ None)
+            × (table ≡ table_naming tasks.items (places_of rows.items) blocks width))
             (λ fault. table_fault blocks tasks.items (places_of rows.items) ≡ Some fault) }
     {
         match table_fault(&tasks, &rows, blocks) {
@@ -97,7 +99,8 @@ impl Table {
         count_writes(self.tasks.as_slice(), row_of(&self.rows, cycle).as_slice())
     }
 
-    /// Does the k-th write of the cycle's row, from 0, and answers its block. No other block changes, and all expressions are valued on the context before.
+    /// Does the k-th write of the cycle's row, from 0, and answers its block. No other block changes, and all
+    /// expressions are valued on the context before.
     pub fn apply_write<C: Calls>(
         &self,
         cycle: u32,

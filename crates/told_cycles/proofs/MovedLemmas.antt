@@ -10,10 +10,12 @@ use Rattle.guards_model.specs.Missions.{ActuatorValue, MissionValue, output_word
 use Rattle.told_cycles.proofs.StandLemmas.{the_same}
 
 word_in : (n : ℕ) (xs : List ℤ) (k : ℕ) → k < n → word_of xs k ≡ word_of (take n xs) k
-word_in n xs k low = unwrap_or-slice_get xs k (pos 0) ∙ sym (unwrap_or-slice_get (take n xs) k (pos 0) ∙ get_or-take n xs k (pos 0) low)
+word_in n xs k low = unwrap_or-slice_get xs k (pos 0)
+    ∙ sym (unwrap_or-slice_get (take n xs) k (pos 0) ∙ get_or-take n xs k (pos 0) low)
 
 -- one more word is moved
-pub word_more : (f : ℕ → ℤ) (next : List ℤ) (k : ℕ) (word : ℤ) → k < length next → ((j : ℕ) → j < k → get_or next j (pos 0) ≡ f j) → word ≡ f k →
+pub word_more : (f : ℕ → ℤ) (next : List ℤ) (k : ℕ) (word : ℤ) → k < length next →
+    ((j : ℕ) → j < k → get_or next j (pos 0) ≡ f j) → word ≡ f k →
     (j : ℕ) → j < k + 1 → get_or (set next k word) j (pos 0) ≡ f j
 word_more f next k word there before is =
     below_more (λ (j : ℕ). get_or (set next k word) j (pos 0) ≡ f j) k
@@ -21,7 +23,8 @@ word_more f next k word there before is =
     (get_or-set_same next k word (pos 0) there ∙ is)
 
 pub moved_are : (steps last wanted next : List ℤ) → length wanted ≤ 8 → length last ≡ 8 → length next ≡ 8 →
-    ((k : ℕ) → k < length wanted → get_or next k (pos 0) ≡ limited (word_of last k) (word_of wanted k) (word_of steps k)) →
+    ((k : ℕ) → k < length wanted →
+    get_or next k (pos 0) ≡ limited (word_of last k) (word_of wanted k) (word_of steps k)) →
     take (length wanted) next ≡ words_towards (take (length wanted) steps) (take (length wanted) last) wanted
 moved_are steps last wanted next few long size h =
     let n = length wanted in
@@ -34,11 +37,13 @@ moved_are steps last wanted next few long size h =
     ∙ ap (λ m. map f (range_with_len 0 m)) (sym front)
 
 -- the wanted words are as many as the outputs
-pub wanted_long : (M : MissionValue) (ctx : ContextValue) (wanted : List ℤ) → wanted ≡ output_words M ctx → length wanted ≡ length M.outputs
+pub wanted_long : (M : MissionValue) (ctx : ContextValue) (wanted : List ℤ) → wanted ≡ output_words M ctx →
+    length wanted ≡ length M.outputs
 wanted_long M ctx wanted is = ap length is ∙ length-map M.outputs (λ (o : ℕ × ℕ). context_word ctx o.0 o.1)
 
 -- the words of the mission's actuator move
-pub moved_by : (M : MissionValue) (ctx : ContextValue) (steps start last wanted next : List ℤ) → wanted ≡ output_words M ctx →
+pub moved_by : (M : MissionValue) (ctx : ContextValue) (steps start last wanted next : List ℤ) →
+    wanted ≡ output_words M ctx →
     Some (record { steps = take (length M.outputs) steps; start = take (length M.outputs) start }) ≡ M.actuator →
     take (length wanted) next ≡ words_towards (take (length wanted) steps) (take (length wanted) last) wanted →
     (actuator : ActuatorValue) → M.actuator ≡ Some actuator →
@@ -48,4 +53,5 @@ moved_by M ctx steps start last wanted next is told h actuator there =
     let long = wanted_long M ctx wanted is in
     let mine : ActuatorValue = record { steps = take n steps; start = take n start } in
     ap (λ k. take k next) (sym long) ∙ h ∙ (λ i. words_towards (take (long i) steps) (take (long i) last) (is i))
-    ∙ ap (λ (v : ActuatorValue). words_towards v.steps (take n last) (output_words M ctx)) (the_same mine actuator (told ∙ there))
+    ∙ ap (λ (v : ActuatorValue). words_towards v.steps (take n last) (output_words M ctx))
+    (the_same mine actuator (told ∙ there))

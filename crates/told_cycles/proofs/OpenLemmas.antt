@@ -11,11 +11,16 @@ use Rattle.told_cycles.specs.Sweeping.{SweepsFor}
 use Rattle.told_cycles.specs.declared.sweeps.Sweeps.{Sweeps}
 use Rattle.told_cycles.specs.Rules.{most_planned}
 
-pub begins : (M : MissionValue) (told : Told) (transfer : Option TransferValue) (s new : Sweeps) (starts : Bool) (done : ℕ) → starts ≡ has_started done transfer → done ≡ next_cycle_number told →
-    ((blocks next : ℕ) (cycles : List TransferCycle) → SweepsFor blocks next cycles s → SweepsFor blocks next (cond starts [] cycles) new) →
-    (cycles : List TransferCycle) → SweepsFor M.rules.blocks (next_cycle_number told) cycles s → SweepsFor M.rules.blocks (next_cycle_number told) (cond (has_started (next_cycle_number told) transfer) [] cycles) new
+pub begins : (M : MissionValue) (told : Told) (transfer : Option TransferValue) (s new : Sweeps) (starts : Bool)
+    (done : ℕ) → starts ≡ has_started done transfer → done ≡ next_cycle_number told →
+    ((blocks next : ℕ) (cycles : List TransferCycle) → SweepsFor blocks next cycles s →
+    SweepsFor blocks next (cond starts [] cycles) new) →
+    (cycles : List TransferCycle) → SweepsFor M.rules.blocks (next_cycle_number told) cycles s →
+    SweepsFor M.rules.blocks (next_cycle_number told)
+    (cond (has_started (next_cycle_number told) transfer) [] cycles) new
 begins M told transfer s new starts done e d f cycles h =
-    subst (λ b. SweepsFor M.rules.blocks (next_cycle_number told) (cond b [] cycles) new) (e ∙ ap (λ n. has_started n transfer) d) (f M.rules.blocks (next_cycle_number told) cycles h)
+    subst (λ b. SweepsFor M.rules.blocks (next_cycle_number told) (cond b [] cycles) new)
+    (e ∙ ap (λ n. has_started n transfer) d) (f M.rules.blocks (next_cycle_number told) cycles h)
 
 -- the parts of a mission's rules
 pub record RulesParts (M : MissionValue) : Type 0 where
@@ -27,8 +32,13 @@ pub record RulesParts (M : MissionValue) : Type 0 where
 pub rules_parts : (M : MissionValue) → IsMission M → RulesParts M
 rules_parts M mission =
     let r = M.rules in
-    let outer = both ((within 3 7 r.channels && within 1 256 r.blocks) && (within 0 65536 r.keep && within 65536 6553600 r.threshold)) ((within 1 64 r.sweep && within 0 64 r.last) && ((within 1 2 r.version && is_law r.version r.law) && (within 0 6553600 r.decrement && within 1 2 r.returning))) mission.rules in
-    let inner = both (within 3 7 r.channels && within 1 256 r.blocks) (within 0 65536 r.keep && within 65536 6553600 r.threshold) outer.0 in
+    let outer = both ((within 3 7 r.channels && within 1 256 r.blocks)
+    && (within 0 65536 r.keep && within 65536 6553600 r.threshold))
+    ((within 1 64 r.sweep && within 0 64 r.last)
+    && ((within 1 2 r.version && is_law r.version r.law)
+    && (within 0 6553600 r.decrement && within 1 2 r.returning))) mission.rules in
+    let inner = both (within 3 7 r.channels && within 1 256 r.blocks)
+    (within 0 65536 r.keep && within 65536 6553600 r.threshold) outer.0 in
     let sizes = both (within 3 7 r.channels) (within 1 256 r.blocks) inner.0 in
     let counts = both (within 0 65536 r.keep) (within 65536 6553600 r.threshold) inner.1 in
     let plans = both (within 1 64 r.sweep && within 0 64 r.last) _ outer.1 in

@@ -15,7 +15,8 @@ use Rattle.guards_model.proofs.Numbers.{every_set, is_set_of_mask, sublists}
 
 -- ---- tests of all members
 
-none_by : (b : ChannelSet) (x : ℕ) (rest : ChannelSet) (s : Bool) → has b x ≡ s → (length (without rest b) == 0) ≡ list_all (has b) rest →
+none_by : (b : ChannelSet) (x : ℕ) (rest : ChannelSet) (s : Bool) → has b x ≡ s →
+    (length (without rest b) == 0) ≡ list_all (has b) rest →
     (length (cond (not s) (x ∷ without rest b) (without rest b)) == 0) ≡ (s && list_all (has b) rest)
 none_by b x rest true e h = h
 none_by b x rest false e h = eqb-suc-zero (length (without rest b))
@@ -26,7 +27,8 @@ none_left (x ∷ a) b = none_by b x a (has b x) refl (none_left a b)
 
 all_of : (P : ℕ → Bool) (xs : List ℕ) → ((q : ℕ) → has xs q ≡ true → P q ≡ true) → list_all P xs ≡ true
 all_of P [] h = refl
-all_of P (x ∷ xs) h = and_true (P x) (list_all P xs) (h x (has-head x xs)) (all_of P xs (λ q k. h q (or_true (x == q) (has xs q) k)))
+all_of P (x ∷ xs) h = and_true (P x) (list_all P xs) (h x (has-head x xs))
+    (all_of P xs (λ q k. h q (or_true (x == q) (has xs q) k)))
 
 pub same_bool : (a b : Bool) → (a ≡ true → b ≡ true) → (b ≡ true → a ≡ true) → a ≡ b
 same_bool true true h k = refl
@@ -63,22 +65,27 @@ each_alike = refl
 at_place : (P : ℕ → Bool) (q : ℕ) → q < 7 → list_all P every_channel ≡ true → P q ≡ true
 at_place P q h k = member_passes P every_channel q k (every_has q h)
 
-pub below_mask : (set : ChannelSet) (bound : ℕ) → is_set set ≡ true → bound < 7 → nat_lt (mask set) (2 ^ bound) ≡ list_all (λ q. nat_lt q bound) set
+pub below_mask : (set : ChannelSet) (bound : ℕ) → is_set set ≡ true → bound < 7 →
+    nat_lt (mask set) (2 ^ bound) ≡ list_all (λ q. nat_lt q bound) set
 unfolding below_alike
 below_mask set bound h low =
     alike_is (nat_lt (mask set) (2 ^ bound)) (list_all (λ q. nat_lt q bound) set)
-    (at_place (λ b. alike (nat_lt (mask set) (2 ^ b)) (list_all (λ q. nat_lt q b) set)) bound low (every_set below_alike each_alike set h))
+    (at_place (λ b. alike (nat_lt (mask set) (2 ^ b)) (list_all (λ q. nat_lt q b) set)) bound low
+    (every_set below_alike each_alike set h))
 
 -- sets with the same mask
-pub masks_tell : (a b : ChannelSet) (m n : ℕ) → m ≡ mask a → n ≡ mask b → a ≡ set_of_mask m → b ≡ set_of_mask n → (m == n) ≡ bytes_eq a b
+pub masks_tell : (a b : ChannelSet) (m n : ℕ) → m ≡ mask a → n ≡ mask b → a ≡ set_of_mask m → b ≡ set_of_mask n →
+    (m == n) ≡ bytes_eq a b
 masks_tell a b m n e f g h =
     same_bool (m == n) (bytes_eq a b) (λ k. (bytes_eq-Decides a b).1 (g ∙ ap set_of_mask (eqb-true m n k) ∙ sym h))
     (λ k. eq-eqb m n (e ∙ ap mask ((bytes_eq-Decides a b).0 k) ∙ sym f))
 
 -- what each channel passes that is in a set
-pub all_members : (P : ℕ → Bool) (set : ChannelSet) (m : ℕ) → set ≡ set_of_mask m → m < 128 → ((q : ℕ) → q < 7 → (not (has set q) || P q) ≡ true) → list_all P set ≡ true
+pub all_members : (P : ℕ → Bool) (set : ChannelSet) (m : ℕ) → set ≡ set_of_mask m → m < 128 →
+    ((q : ℕ) → q < 7 → (not (has set q) || P q) ≡ true) → list_all P set ≡ true
 all_members P set m e low h =
-    all_of P set (λ q there. second (has set q) (P q) there (h q (member-channel set q (ap is_set e ∙ is_set_of_mask m low) there)))
+    all_of P set (λ q there. second (has set q) (P q) there
+    (h q (member-channel set q (ap is_set e ∙ is_set_of_mask m low) there)))
   where
     second : (a b : Bool) → a ≡ true → (not a || b) ≡ true → b ≡ true
     second true b k j = j
@@ -102,4 +109,5 @@ fails_for P set q h = by_all (list_all P set) refl
 
     by_all : (s : Bool) → list_all P set ≡ s → s ≡ false
     by_all false e = refl
-    by_all true e = absurd (clash (sym (member_passes P set q e (parts (has set q) (P q) h).0) ∙ (parts (has set q) (P q) h).1))
+    by_all true e = absurd (clash
+        (sym (member_passes P set q e (parts (has set q) (P q) h).0) ∙ (parts (has set q) (P q) h).1))

@@ -37,7 +37,8 @@ differ h = absurd (wrong h)
 other_place : (test : Place → Bool) (a b : Place) → a ≡ b → test b ≡ false → test a ≡ true → ⊥
 other_place test a b e h k = differ (sym k ∙ ap test e ∙ h)
 
-pub head_no : (M : MissionValue) (p : place.Place) (a : Auditor) (n m : ℕ) → StandsAt M p a → (is_head a.place ≡ true → (n == M.rules.channels && m == M.cycles) ≡ false) →
+pub head_no : (M : MissionValue) (p : place.Place) (a : Auditor) (n m : ℕ) → StandsAt M p a →
+    (is_head a.place ≡ true → (n == M.rules.channels && m == M.cycles) ≡ false) →
     suits_place M p (head_told n m) ≡ false
 head_no M place.at_head a n m h f = f (ap is_head h.0)
 head_no M (place.between told) a n m h f = refl
@@ -45,8 +46,10 @@ head_no M (place.amid told r) a n m h f = refl
 head_no M (place.awaits_out told) a n m h f = refl
 head_no M place.at_end a n m h f = refl
 
-pub head_yes : (M : MissionValue) (p : place.Place) (a new : Auditor) (n m : ℕ) → StandsAt M p a → is_head a.place ≡ true → (n == M.rules.channels && m == M.cycles) ≡ true →
-    (IsBetweenCycles M [] a → StandsAt M (place.between []) new) → (suits_place M p (head_told n m) ≡ true) × StandsAt M (following_place M p (head_told n m)) new
+pub head_yes : (M : MissionValue) (p : place.Place) (a new : Auditor) (n m : ℕ) → StandsAt M p a →
+    is_head a.place ≡ true → (n == M.rules.channels && m == M.cycles) ≡ true →
+    (IsBetweenCycles M [] a → StandsAt M (place.between []) new) →
+    (suits_place M p (head_told n m) ≡ true) × StandsAt M (following_place M p (head_told n m)) new
 head_yes M place.at_head a new n m h is fits f = (fits, f h.1)
 head_yes M (place.between told) a new n m h is fits f = absurd (other_place is_head a.place at.Between h.0 refl is)
 head_yes M (place.amid told r) a new n m h is fits f = absurd (other_place is_head a.place at.Amid h.0 refl is)
@@ -54,32 +57,39 @@ head_yes M (place.awaits_out told) a new n m h is fits f = absurd (other_place i
 head_yes M place.at_end a new n m h is fits f = absurd (other_place is_head a.place at.Over h refl is)
 
 pub done_no : (M : MissionValue) (p : place.Place) (a : Auditor) (m : ℕ) → StandsAt M p a →
-    (is_between_cycles a.place ≡ true → (told : Told) → IsBetweenCycles M told a → (next_cycle_number told == M.cycles && m == M.cycles) ≡ false) → suits_place M p (done_told m) ≡ false
+    (is_between_cycles a.place ≡ true → (told : Told) → IsBetweenCycles M told a →
+    (next_cycle_number told == M.cycles && m == M.cycles) ≡ false) → suits_place M p (done_told m) ≡ false
 done_no M place.at_head a m h f = refl
 done_no M (place.between told) a m h f = f (ap is_between_cycles h.0) told h.1
 done_no M (place.amid told r) a m h f = refl
 done_no M (place.awaits_out told) a m h f = refl
 done_no M place.at_end a m h f = refl
 
-pub done_yes : (M : MissionValue) (p : place.Place) (a new : Auditor) (m : ℕ) → StandsAt M p a → is_between_cycles a.place ≡ true →
-    ((told : Told) → IsBetweenCycles M told a → (next_cycle_number told == M.cycles && m == M.cycles) ≡ true) → new.place ≡ at.Over →
+pub done_yes : (M : MissionValue) (p : place.Place) (a new : Auditor) (m : ℕ) → StandsAt M p a →
+    is_between_cycles a.place ≡ true →
+    ((told : Told) → IsBetweenCycles M told a → (next_cycle_number told == M.cycles && m == M.cycles) ≡ true) →
+    new.place ≡ at.Over →
     (suits_place M p (done_told m) ≡ true) × StandsAt M (following_place M p (done_told m)) new
 done_yes M place.at_head a new m h is f over = absurd (other_place is_between_cycles a.place at.Head h.0 refl is)
 done_yes M (place.between told) a new m h is f over = (f told h.1, over)
 done_yes M (place.amid told r) a new m h is f over = absurd (other_place is_between_cycles a.place at.Amid h.0 refl is)
-done_yes M (place.awaits_out told) a new m h is f over = absurd (other_place is_between_cycles a.place at.Awaits h.0 refl is)
+done_yes M (place.awaits_out told) a new m h is f over =
+    absurd (other_place is_between_cycles a.place at.Awaits h.0 refl is)
 done_yes M place.at_end a new m h is f over = absurd (other_place is_between_cycles a.place at.Over h refl is)
 
 pub out_no : (M : MissionValue) (p : place.Place) (a : Auditor) (words : List ℤ) → StandsAt M p a →
-    (is_awaiting a.place ≡ true → (told : Told) → IsBetweenCycles M told a → IsSome M.actuator → words_fit M.actuator told words ≡ false) → suits_place M p (out_told words) ≡ false
+    (is_awaiting a.place ≡ true → (told : Told) → IsBetweenCycles M told a → IsSome M.actuator →
+    words_fit M.actuator told words ≡ false) → suits_place M p (out_told words) ≡ false
 out_no M place.at_head a words h f = refl
 out_no M (place.between told) a words h f = refl
 out_no M (place.amid told r) a words h f = refl
 out_no M (place.awaits_out told) a words h f = f (ap is_awaiting h.0) told h.1 h.2
 out_no M place.at_end a words h f = refl
 
-pub out_yes : (M : MissionValue) (p : place.Place) (a new : Auditor) (words : List ℤ) → StandsAt M p a → is_awaiting a.place ≡ true →
-    ((told : Told) → IsBetweenCycles M told a → IsSome M.actuator → (words_fit M.actuator told words ≡ true) × StandsAt M (place.between told) new) →
+pub out_yes : (M : MissionValue) (p : place.Place) (a new : Auditor) (words : List ℤ) → StandsAt M p a →
+    is_awaiting a.place ≡ true →
+    ((told : Told) → IsBetweenCycles M told a → IsSome M.actuator →
+    (words_fit M.actuator told words ≡ true) × StandsAt M (place.between told) new) →
     (suits_place M p (out_told words) ≡ true) × StandsAt M (following_place M p (out_told words)) new
 out_yes M place.at_head a new words h is f = absurd (other_place is_awaiting a.place at.Head h.0 refl is)
 out_yes M (place.between told) a new words h is f = absurd (other_place is_awaiting a.place at.Between h.0 refl is)
@@ -103,7 +113,8 @@ amid_is at.Awaits h = differ (sym h)
 amid_is at.Over h = differ (sym h)
 
 -- between two cycles only the place changes
-pub between_still : (M : MissionValue) (told : Told) (old : Auditor) (p : Place) → IsBetweenCycles M told old → IsBetweenCycles M told (record old { place = p })
+pub between_still : (M : MissionValue) (told : Told) (old : Auditor) (p : Place) → IsBetweenCycles M told old →
+    IsBetweenCycles M told (record old { place = p })
 between_still M told old p h =
     record {
       knows = record {
@@ -120,7 +131,8 @@ between_still M told old p h =
     }
 
 -- words of an actuator are those that were told
-pub words_same : (M : MissionValue) (told : Told) (a : Auditor) (words : List ℤ) (b : Bool) → IsBetweenCycles M told a → IsSome M.actuator → b ≡ are_same_words words (take (length M.outputs) a.words) →
+pub words_same : (M : MissionValue) (told : Told) (a : Auditor) (words : List ℤ) (b : Bool) → IsBetweenCycles M told a →
+    IsSome M.actuator → b ≡ are_same_words words (take (length M.outputs) a.words) →
     words_fit M.actuator told words ≡ b
 words_same M told a words b h some e = by_actuator M.actuator refl some
   where
@@ -128,40 +140,51 @@ words_same M told a words b h some e = by_actuator M.actuator refl some
     by_actuator None k none = differ (sym none)
     by_actuator (Some actuator) k there = ap (are_same_words words) (sym (h.knows.words actuator k)) ∙ sym e
 
-pub cycle_no : (M : MissionValue) (p : place.Place) (a : Auditor) (c : ℕ) (active : ChannelSet) (t : Option TransferValue) → StandsAt M p a →
-    (is_between_cycles a.place ≡ true → (told : Told) → IsBetweenCycles M told a → cycle_fits M told c active t ≡ false) → suits_place M p (cycle_told c active t) ≡ false
+pub cycle_no : (M : MissionValue) (p : place.Place) (a : Auditor) (c : ℕ) (active : ChannelSet)
+    (t : Option TransferValue) → StandsAt M p a →
+    (is_between_cycles a.place ≡ true → (told : Told) → IsBetweenCycles M told a →
+    cycle_fits M told c active t ≡ false) → suits_place M p (cycle_told c active t) ≡ false
 cycle_no M place.at_head a c active t h f = refl
 cycle_no M (place.between told) a c active t h f = f (ap is_between_cycles h.0) told h.1
 cycle_no M (place.amid told r) a c active t h f = refl
 cycle_no M (place.awaits_out told) a c active t h f = refl
 cycle_no M place.at_end a c active t h f = refl
 
-pub cycle_yes : (M : MissionValue) (p : place.Place) (a new : Auditor) (c : ℕ) (active : ChannelSet) (t : Option TransferValue) → StandsAt M p a → is_between_cycles a.place ≡ true →
-    ((told : Told) → IsBetweenCycles M told a → (cycle_fits M told c active t ≡ true) × StandsAt M (place.amid told (opened_record c active t)) new) →
+pub cycle_yes : (M : MissionValue) (p : place.Place) (a new : Auditor) (c : ℕ) (active : ChannelSet)
+    (t : Option TransferValue) → StandsAt M p a → is_between_cycles a.place ≡ true →
+    ((told : Told) → IsBetweenCycles M told a →
+    (cycle_fits M told c active t ≡ true) × StandsAt M (place.amid told (opened_record c active t)) new) →
     (suits_place M p (cycle_told c active t) ≡ true) × StandsAt M (following_place M p (cycle_told c active t)) new
 cycle_yes M place.at_head a new c active t h is f = absurd (other_place is_between_cycles a.place at.Head h.0 refl is)
 cycle_yes M (place.between told) a new c active t h is f = f told h.1
-cycle_yes M (place.amid told r) a new c active t h is f = absurd (other_place is_between_cycles a.place at.Amid h.0 refl is)
-cycle_yes M (place.awaits_out told) a new c active t h is f = absurd (other_place is_between_cycles a.place at.Awaits h.0 refl is)
+cycle_yes M (place.amid told r) a new c active t h is f =
+    absurd (other_place is_between_cycles a.place at.Amid h.0 refl is)
+cycle_yes M (place.awaits_out told) a new c active t h is f =
+    absurd (other_place is_between_cycles a.place at.Awaits h.0 refl is)
 cycle_yes M place.at_end a new c active t h is f = absurd (other_place is_between_cycles a.place at.Over h refl is)
 
-pub between_somewhere : (M : MissionValue) (p : place.Place) (a : Auditor) → StandsAt M p a → is_between_cycles a.place ≡ true → (told : Told) × IsBetweenCycles M told a
+pub between_somewhere : (M : MissionValue) (p : place.Place) (a : Auditor) → StandsAt M p a →
+    is_between_cycles a.place ≡ true → (told : Told) × IsBetweenCycles M told a
 between_somewhere M place.at_head a h is = absurd (other_place is_between_cycles a.place at.Head h.0 refl is)
 between_somewhere M (place.between told) a h is = (told, h.1)
 between_somewhere M (place.amid told r) a h is = absurd (other_place is_between_cycles a.place at.Amid h.0 refl is)
-between_somewhere M (place.awaits_out told) a h is = absurd (other_place is_between_cycles a.place at.Awaits h.0 refl is)
+between_somewhere M (place.awaits_out told) a h is =
+    absurd (other_place is_between_cycles a.place at.Awaits h.0 refl is)
 between_somewhere M place.at_end a h is = absurd (other_place is_between_cycles a.place at.Over h refl is)
 
 pub channel_no : (M : MissionValue) (p : place.Place) (a : Auditor) (l : LineValue) → StandsAt M p a →
-    (is_amid a.place ≡ true → (told : Told) (r : RecordValue) → IsAmid M told r a → channel_fits M told r l ≡ false) → suits_place M p (channel_told l) ≡ false
+    (is_amid a.place ≡ true → (told : Told) (r : RecordValue) → IsAmid M told r a → channel_fits M told r l ≡ false) →
+    suits_place M p (channel_told l) ≡ false
 channel_no M place.at_head a l h f = refl
 channel_no M (place.between told) a l h f = refl
 channel_no M (place.amid told r) a l h f = f (ap is_amid h.0) told r h.1
 channel_no M (place.awaits_out told) a l h f = refl
 channel_no M place.at_end a l h f = refl
 
-pub channel_yes : (M : MissionValue) (p : place.Place) (a new : Auditor) (l : LineValue) → StandsAt M p a → is_amid a.place ≡ true →
-    ((told : Told) (r : RecordValue) → IsAmid M told r a → (channel_fits M told r l ≡ true) × StandsAt M (place.amid told (with_line r l)) new) →
+pub channel_yes : (M : MissionValue) (p : place.Place) (a new : Auditor) (l : LineValue) → StandsAt M p a →
+    is_amid a.place ≡ true →
+    ((told : Told) (r : RecordValue) → IsAmid M told r a →
+    (channel_fits M told r l ≡ true) × StandsAt M (place.amid told (with_line r l)) new) →
     (suits_place M p (channel_told l) ≡ true) × StandsAt M (following_place M p (channel_told l)) new
 channel_yes M place.at_head a new l h is f = absurd (other_place is_amid a.place at.Head h.0 refl is)
 channel_yes M (place.between told) a new l h is f = absurd (other_place is_amid a.place at.Between h.0 refl is)
@@ -170,15 +193,18 @@ channel_yes M (place.awaits_out told) a new l h is f = absurd (other_place is_am
 channel_yes M place.at_end a new l h is f = absurd (other_place is_amid a.place at.Over h refl is)
 
 pub steps_no : (M : MissionValue) (p : place.Place) (a : Auditor) (t : TraceValue) → StandsAt M p a →
-    (is_amid a.place ≡ true → (told : Told) (r : RecordValue) → IsAmid M told r a → steps_fit M told r t ≡ false) → suits_place M p (steps_told t) ≡ false
+    (is_amid a.place ≡ true → (told : Told) (r : RecordValue) → IsAmid M told r a → steps_fit M told r t ≡ false) →
+    suits_place M p (steps_told t) ≡ false
 steps_no M place.at_head a t h f = refl
 steps_no M (place.between told) a t h f = refl
 steps_no M (place.amid told r) a t h f = f (ap is_amid h.0) told r h.1
 steps_no M (place.awaits_out told) a t h f = refl
 steps_no M place.at_end a t h f = refl
 
-pub steps_yes : (M : MissionValue) (p : place.Place) (a new : Auditor) (t : TraceValue) → StandsAt M p a → is_amid a.place ≡ true →
-    ((told : Told) (r : RecordValue) → IsAmid M told r a → (steps_fit M told r t ≡ true) × StandsAt M (place.amid told (with_steps r t)) new) →
+pub steps_yes : (M : MissionValue) (p : place.Place) (a new : Auditor) (t : TraceValue) → StandsAt M p a →
+    is_amid a.place ≡ true →
+    ((told : Told) (r : RecordValue) → IsAmid M told r a →
+    (steps_fit M told r t ≡ true) × StandsAt M (place.amid told (with_steps r t)) new) →
     (suits_place M p (steps_told t) ≡ true) × StandsAt M (following_place M p (steps_told t)) new
 steps_yes M place.at_head a new t h is f = absurd (other_place is_amid a.place at.Head h.0 refl is)
 steps_yes M (place.between told) a new t h is f = absurd (other_place is_amid a.place at.Between h.0 refl is)
@@ -186,24 +212,33 @@ steps_yes M (place.amid told r) a new t h is f = f told r h.1
 steps_yes M (place.awaits_out told) a new t h is f = absurd (other_place is_amid a.place at.Awaits h.0 refl is)
 steps_yes M place.at_end a new t h is f = absurd (other_place is_amid a.place at.Over h refl is)
 
-pub end_no : (M : MissionValue) (p : place.Place) (a : Auditor) (removed joined : ChannelSet) (left : Option ℕ) → StandsAt M p a →
-    (is_amid a.place ≡ true → (told : Told) (r : RecordValue) → IsAmid M told r a → end_fits M told r removed joined left ≡ false) → suits_place M p (end_told removed joined left) ≡ false
+pub end_no : (M : MissionValue) (p : place.Place) (a : Auditor) (removed joined : ChannelSet) (left : Option ℕ) →
+    StandsAt M p a →
+    (is_amid a.place ≡ true → (told : Told) (r : RecordValue) → IsAmid M told r a →
+    end_fits M told r removed joined left ≡ false) → suits_place M p (end_told removed joined left) ≡ false
 end_no M place.at_head a removed joined left h f = refl
 end_no M (place.between told) a removed joined left h f = refl
 end_no M (place.amid told r) a removed joined left h f = f (ap is_amid h.0) told r h.1
 end_no M (place.awaits_out told) a removed joined left h f = refl
 end_no M place.at_end a removed joined left h f = refl
 
-pub end_yes : (M : MissionValue) (p : place.Place) (a new : Auditor) (removed joined : ChannelSet) (left : Option ℕ) → StandsAt M p a → is_amid a.place ≡ true →
-    ((told : Told) (r : RecordValue) → IsAmid M told r a → (end_fits M told r removed joined left ≡ true) × StandsAt M (following_place M (place.amid told r) (end_told removed joined left)) new) →
-    (suits_place M p (end_told removed joined left) ≡ true) × StandsAt M (following_place M p (end_told removed joined left)) new
+pub end_yes : (M : MissionValue) (p : place.Place) (a new : Auditor) (removed joined : ChannelSet) (left : Option ℕ) →
+    StandsAt M p a → is_amid a.place ≡ true →
+    ((told : Told) (r : RecordValue) → IsAmid M told r a →
+    (end_fits M told r removed joined left ≡ true)
+    × StandsAt M (following_place M (place.amid told r) (end_told removed joined left)) new) →
+    (suits_place M p (end_told removed joined left) ≡ true)
+    × StandsAt M (following_place M p (end_told removed joined left)) new
 end_yes M place.at_head a new removed joined left h is f = absurd (other_place is_amid a.place at.Head h.0 refl is)
-end_yes M (place.between told) a new removed joined left h is f = absurd (other_place is_amid a.place at.Between h.0 refl is)
+end_yes M (place.between told) a new removed joined left h is f =
+    absurd (other_place is_amid a.place at.Between h.0 refl is)
 end_yes M (place.amid told r) a new removed joined left h is f = f told r h.1
-end_yes M (place.awaits_out told) a new removed joined left h is f = absurd (other_place is_amid a.place at.Awaits h.0 refl is)
+end_yes M (place.awaits_out told) a new removed joined left h is f =
+    absurd (other_place is_amid a.place at.Awaits h.0 refl is)
 end_yes M place.at_end a new removed joined left h is f = absurd (other_place is_amid a.place at.Over h refl is)
 
-pub amid_somewhere : (M : MissionValue) (p : place.Place) (a : Auditor) → StandsAt M p a → is_amid a.place ≡ true → (told : Told) × (r : RecordValue) × IsAmid M told r a
+pub amid_somewhere : (M : MissionValue) (p : place.Place) (a : Auditor) → StandsAt M p a → is_amid a.place ≡ true →
+    (told : Told) × (r : RecordValue) × IsAmid M told r a
 amid_somewhere M place.at_head a h is = absurd (other_place is_amid a.place at.Head h.0 refl is)
 amid_somewhere M (place.between told) a h is = absurd (other_place is_amid a.place at.Between h.0 refl is)
 amid_somewhere M (place.amid told r) a h is = (told, r, h.1)
@@ -217,25 +252,37 @@ swept_none M s [] h = refl
 swept_none M s (r ∷ told) h = by_test (nat_le s (next_cycle_number told)) refl
   where
     earlier : TransferCycle
-    earlier = record { planned = planned_blocks M.rules.blocks M.rules.sweep (swept_told M s told); written = written_blocks M (next_cycle_number told) }
+    earlier = record {
+      planned = planned_blocks M.rules.blocks M.rules.sweep (swept_told M s told);
+      written = written_blocks M (next_cycle_number told);
+    }
 
     by_test : (b : Bool) → nat_le s (next_cycle_number told) ≡ b → cond b (earlier ∷ swept_told M s told) [] ≡ []
     by_test true e = absurd (omega (arith, leb-true s (next_cycle_number told) e, h))
     by_test false e = refl
 
 -- what goes on was there before
-went_on : (M : MissionValue) (told : Told) (t : TransferValue) → transfer_goes_on told t ≡ true → (b : TransferValue) × (transfer_told told ≡ Some b) × (b.start ≡ t.start)
+went_on : (M : MissionValue) (told : Told) (t : TransferValue) → transfer_goes_on told t ≡ true →
+    (b : TransferValue) × (transfer_told told ≡ Some b) × (b.start ≡ t.start)
 went_on M [] t h = absurd (differ (sym h))
 went_on M (r ∷ told) t h = by_transfer r.transfer (both (is_empty r.joined) (continues r.transfer t) h).1
   where
-    by_transfer : (o : Option TransferValue) → continues o t ≡ true → (b : TransferValue) × (o ≡ Some b) × (b.start ≡ t.start)
+    by_transfer : (o : Option TransferValue) → continues o t ≡ true →
+        (b : TransferValue) × (o ≡ Some b) × (b.start ≡ t.start)
     by_transfer None k = absurd (differ (sym k))
-    by_transfer (Some b) k = (b, refl, eqb-true b.start t.start (both (b.start == t.start) (list_all (has b.targets) t.targets) k).0)
+    by_transfer (Some b) k = (
+      b,
+      refl,
+      eqb-true b.start t.start (both (b.start == t.start) (list_all (has b.targets) t.targets) k).0,
+    )
 
-starts_or_on : (M : MissionValue) (told : Told) (active : ChannelSet) (t : TransferValue) → transfer_fits M told active (Some t) ≡ true → (t.start == next_cycle_number told || transfer_goes_on told t) ≡ true
+starts_or_on : (M : MissionValue) (told : Told) (active : ChannelSet) (t : TransferValue) →
+    transfer_fits M told active (Some t) ≡ true → (t.start == next_cycle_number told || transfer_goes_on told t) ≡ true
 starts_or_on M told active t h =
     (both (list_all (is_passive M active) t.targets) (t.start == next_cycle_number told || transfer_goes_on told t)
-    (both (within 1 M.rules.returning (length t.targets)) (list_all (is_passive M active) t.targets && (t.start == next_cycle_number told || transfer_goes_on told t)) h).1).1
+    (both (within 1 M.rules.returning (length t.targets))
+    (list_all (is_passive M active) t.targets && (t.start == next_cycle_number told || transfer_goes_on told t))
+    h).1).1
 
 pub the_same : {A : Type 0} (x y : A) → Some x ≡ Some y → x ≡ y
 the_same x y h = cc
@@ -247,36 +294,46 @@ no_some y h = absurd (wrong h)
     wrong k = cc
 
 -- the sweeps of a cycle that begins
-pub sweeps_begin : (M : MissionValue) (told : Told) (active : ChannelSet) (transfer : Option TransferValue) (s new : Sweeps) → SweepsAt M told None s → transfer_fits M told active transfer ≡ true →
+pub sweeps_begin : (M : MissionValue) (told : Told) (active : ChannelSet) (transfer : Option TransferValue)
+    (s new : Sweeps) → SweepsAt M told None s → transfer_fits M told active transfer ≡ true →
     ((cycles : List TransferCycle) → SweepsFor M.rules.blocks (next_cycle_number told) cycles s →
-    SweepsFor M.rules.blocks (next_cycle_number told) (cond (has_started (next_cycle_number told) transfer) [] cycles) new) → SweepsAt M told transfer new
+    SweepsFor M.rules.blocks (next_cycle_number told) (cond (has_started (next_cycle_number told) transfer) [] cycles)
+    new) → SweepsAt M told transfer new
 sweeps_begin M told active None s new h fits f = record { cycles = h.cycles; stand = f h.cycles h.stand; same = h.same }
-sweeps_begin M told active (Some t) s new h fits f = by_start (t.start == next_cycle_number told) refl (starts_or_on M told active t fits)
+sweeps_begin M told active (Some t) s new h fits f =
+    by_start (t.start == next_cycle_number told) refl (starts_or_on M told active t fits)
   where
     same_start : (u : TransferValue) → Some t ≡ Some u → t.start ≡ u.start
     same_start u is = ap (λ (x : TransferValue). x.start) (the_same t u is)
 
-    by_start : (b : Bool) → (t.start == next_cycle_number told) ≡ b → (b || transfer_goes_on told t) ≡ true → SweepsAt M told (Some t) new
+    by_start : (b : Bool) → (t.start == next_cycle_number told) ≡ b → (b || transfer_goes_on told t) ≡ true →
+        SweepsAt M told (Some t) new
     by_start true e k =
         record {
           cycles = [];
-          stand = subst (λ x. SweepsFor M.rules.blocks (next_cycle_number told) (cond x [] h.cycles) new) e (f h.cycles h.stand);
-          same = λ u is. sym (swept_none M u.start told (omega (arith, eqb-true t.start (next_cycle_number told) e, same_start u is)));
+          stand = subst (λ x. SweepsFor M.rules.blocks (next_cycle_number told) (cond x [] h.cycles) new) e
+              (f h.cycles h.stand);
+          same = λ u is. sym (swept_none M u.start told
+              (omega (arith, eqb-true t.start (next_cycle_number told) e, same_start u is)));
         }
     by_start false e k =
         let w = went_on M told t k in
         record {
           cycles = h.cycles;
-          stand = subst (λ x. SweepsFor M.rules.blocks (next_cycle_number told) (cond x [] h.cycles) new) e (f h.cycles h.stand);
+          stand = subst (λ x. SweepsFor M.rules.blocks (next_cycle_number told) (cond x [] h.cycles) new) e
+              (f h.cycles h.stand);
           same = λ u is. h.same w.0 w.1 ∙ ap (λ n. swept_told M n told) (w.2 ∙ same_start u is);
         }
 
-pub started_begin : (M : MissionValue) (told : Told) (active : ChannelSet) (transfer : Option TransferValue) → HasStarted told (transfer_told told) → transfer_fits M told active transfer ≡ true → HasStarted told transfer
+pub started_begin : (M : MissionValue) (told : Told) (active : ChannelSet) (transfer : Option TransferValue) →
+    HasStarted told (transfer_told told) → transfer_fits M told active transfer ≡ true → HasStarted told transfer
 started_begin M told active None h fits = λ u is. no_some u is
 started_begin M told active (Some t) h fits =
-    λ u is. subst (λ (x : TransferValue). x.start ≤ next_cycle_number told) (the_same t u is) (by_start (t.start == next_cycle_number told) refl (starts_or_on M told active t fits))
+    λ u is. subst (λ (x : TransferValue). x.start ≤ next_cycle_number told) (the_same t u is)
+    (by_start (t.start == next_cycle_number told) refl (starts_or_on M told active t fits))
   where
-    by_start : (b : Bool) → (t.start == next_cycle_number told) ≡ b → (b || transfer_goes_on told t) ≡ true → t.start ≤ next_cycle_number told
+    by_start : (b : Bool) → (t.start == next_cycle_number told) ≡ b → (b || transfer_goes_on told t) ≡ true →
+        t.start ≤ next_cycle_number told
     by_start true e k = omega (arith, eqb-true t.start (next_cycle_number told) e)
     by_start false e k = let w = went_on M told t k in omega (arith, h w.0 w.1, w.2)
 
@@ -284,10 +341,16 @@ take_zero : {A : Type 0} (xs : List A) → take 0 xs ≡ []
 take_zero [] = refl
 take_zero (x ∷ xs) = refl
 
-pub plan_begin : (M : MissionValue) (told : Told) (transfer : Option TransferValue) (s : Sweeps) (plan : List ℕ) → SweepsAt M told transfer s →
-    ((blocks next : ℕ) (cycles : List TransferCycle) → SweepsFor blocks next cycles s → plan ≡ planned_blocks blocks (most_planned M transfer) cycles) → plan ≡ plan_told M told transfer
-plan_begin M told None s plan h f = f M.rules.blocks (next_cycle_number told) h.cycles h.stand ∙ take_zero (filter (remains h.cycles) (cyclic_from M.rules.blocks (sweep_cursor M.rules.blocks h.cycles)))
-plan_begin M told (Some t) s plan h f = f M.rules.blocks (next_cycle_number told) h.cycles h.stand ∙ ap (planned_blocks M.rules.blocks M.rules.sweep) (h.same t refl)
+pub plan_begin : (M : MissionValue) (told : Told) (transfer : Option TransferValue) (s : Sweeps) (plan : List ℕ) →
+    SweepsAt M told transfer s →
+    ((blocks next : ℕ) (cycles : List TransferCycle) → SweepsFor blocks next cycles s →
+    plan ≡ planned_blocks blocks (most_planned M transfer) cycles) → plan ≡ plan_told M told transfer
+plan_begin M told None s plan h f =
+    f M.rules.blocks (next_cycle_number told) h.cycles h.stand
+    ∙ take_zero (filter (remains h.cycles) (cyclic_from M.rules.blocks (sweep_cursor M.rules.blocks h.cycles)))
+plan_begin M told (Some t) s plan h f =
+    f M.rules.blocks (next_cycle_number told) h.cycles h.stand
+    ∙ ap (planned_blocks M.rules.blocks M.rules.sweep) (h.same t refl)
 
 -- what a line within a cycle leaves as it was
 pub record KeepsTold (old new : Auditor) : Type 0 where
@@ -298,7 +361,8 @@ pub record KeepsTold (old new : Auditor) : Type 0 where
   pub counts : new.counts ≡ old.counts
   pub words : new.words ≡ old.words
 
-pub knows_still : (M : MissionValue) (told : Told) (context later : ContextValue) (old new : Auditor) → Knows M told context old → KeepsTold old new → new.context ≡ later → Knows M told later new
+pub knows_still : (M : MissionValue) (told : Told) (context later : ContextValue) (old new : Auditor) →
+    Knows M told context old → KeepsTold old new → new.context ≡ later → Knows M told later new
 knows_still M told context later old new h k e =
     record {
       done = k.done ∙ h.done;
@@ -311,26 +375,39 @@ knows_still M told context later old new h k e =
       words = λ actuator is. ap (take (length M.outputs)) k.words ∙ h.words actuator is;
     }
 
-pub cycle_parts : (M : MissionValue) (told : Told) (cycle : ℕ) (active : ChannelSet) (t : Option TransferValue) → cycle_fits M told cycle active t ≡ true →
-    (cycle < M.cycles) × (cycle ≡ next_cycle_number told) × (active ≡ active_told M told) × (transfer_fits M told active t ≡ true)
+pub cycle_parts : (M : MissionValue) (told : Told) (cycle : ℕ) (active : ChannelSet) (t : Option TransferValue) →
+    cycle_fits M told cycle active t ≡ true →
+    (cycle < M.cycles) × (cycle ≡ next_cycle_number told) × (active ≡ active_told M told)
+    × (transfer_fits M told active t ≡ true)
 cycle_parts M told cycle active t h =
-    let a = both (nat_lt cycle M.cycles && cycle == next_cycle_number told) (bytes_eq active (active_told M told) && transfer_fits M told active t) h in
+    let a = both (nat_lt cycle M.cycles && cycle == next_cycle_number told)
+    (bytes_eq active (active_told M told) && transfer_fits M told active t) h in
     let b = both (nat_lt cycle M.cycles) (cycle == next_cycle_number told) a.0 in
-    let d = both (bytes_eq active (active_told M told)) (transfer_fits M told active t) a.1 in
-    (leb-true (suc cycle) M.cycles b.0, eqb-true cycle (next_cycle_number told) b.1, (bytes_eq-Decides active (active_told M told)).0 d.0, d.1)
+    let d = both (bytes_eq active (active_told M told)) (transfer_fits M told active t) a.1 in (
+      leb-true (suc cycle) M.cycles b.0,
+      eqb-true cycle (next_cycle_number told) b.1,
+      (bytes_eq-Decides active (active_told M told)).0 d.0,
+      d.1,
+    )
 
-pub opens : (M : MissionValue) (told : Told) (cycle : ℕ) (active : ChannelSet) (t : Option TransferValue) (old new : Auditor) → IsBetweenCycles M told old → cycle_fits M told cycle active t ≡ true →
-    new.place ≡ at.Amid → KeepsTold old new → new.context ≡ old.context → transfer_of_pair new.part.transfer ≡ t → new.part.first ≡ None → new.part.lined ≡ [] → new.part.traced ≡ [] →
+pub opens : (M : MissionValue) (told : Told) (cycle : ℕ) (active : ChannelSet) (t : Option TransferValue)
+    (old new : Auditor) → IsBetweenCycles M told old → cycle_fits M told cycle active t ≡ true →
+    new.place ≡ at.Amid → KeepsTold old new → new.context ≡ old.context → transfer_of_pair new.part.transfer ≡ t →
+    new.part.first ≡ None → new.part.lined ≡ [] → new.part.traced ≡ [] →
     ((cycles : List TransferCycle) → SweepsFor M.rules.blocks (next_cycle_number told) cycles old.sweeps →
-    SweepsFor M.rules.blocks (next_cycle_number told) (cond (has_started (next_cycle_number told) t) [] cycles) new.sweeps) →
-    ((blocks next : ℕ) (cycles : List TransferCycle) → SweepsFor blocks next cycles new.sweeps → new.part.plan.items ≡ planned_blocks blocks (most_planned M t) cycles) →
+    SweepsFor M.rules.blocks (next_cycle_number told) (cond (has_started (next_cycle_number told) t) [] cycles)
+    new.sweeps) →
+    ((blocks next : ℕ) (cycles : List TransferCycle) → SweepsFor blocks next cycles new.sweeps →
+    new.part.plan.items ≡ planned_blocks blocks (most_planned M t) cycles) →
     StandsAt M (place.amid told (opened_record cycle active t)) new
 opens M told cycle active t old new h fits place keeps context transfer first lined traced sweeps plan =
     let parts = cycle_parts M told cycle active t fits in
-    let kept : SweepsAt M told t new.sweeps = sweeps_begin M told active t old.sweeps new.sweeps h.sweeps parts.3 sweeps in (
+    let kept : SweepsAt M told t new.sweeps =
+    sweeps_begin M told active t old.sweeps new.sweeps h.sweeps parts.3 sweeps in (
       place,
       record {
-        knows = knows_still M told (context_told M told) (context_told M told) old new h.knows keeps (context ∙ h.knows.context);
+        knows = knows_still M told (context_told M told) (context_told M told) old new h.knows keeps
+            (context ∙ h.knows.context);
         part = record {
           early = omega (arith, parts.0, parts.1);
           active = parts.2;

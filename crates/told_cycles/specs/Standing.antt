@@ -60,7 +60,8 @@ pub record Knows (M : MissionValue) (told : Told) (ctx : ContextValue) (a : Audi
 abbrev pub context_amid : MissionValue → Told → RecordValue → ContextValue
 context_amid M told r =
     if is_empty r.lines then context_told M told
-    else whole (cycle_writes M (next_cycle_number told)) (context_told M told) (next_cycle_number told) (first_line r).inputs
+    else whole (cycle_writes M (next_cycle_number told)) (context_told M told) (next_cycle_number told)
+    (first_line r).inputs
 
 -- What the auditor knows of the running cycle r, the one after those that were told.
 pub record KnowsPart (M : MissionValue) (told : Told) (r : RecordValue) (a : Auditor) : Type 0 where

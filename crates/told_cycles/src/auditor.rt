@@ -275,7 +275,10 @@ impl Auditor {
             result ≡ first_fits mission.now told r (shown_in mission.now line.now) }
         ensures context { (told : Told) (r : RecordValue) → IsAmid mission.now told r self.old → r.lines ≡ [] →
             self.new
-            ≡ record self.old { context = context_amid mission.now told (with_line r (shown_in mission.now line.now)) } }
+            ≡ record self.old {
+              context =
+                  context_amid mission.now told (with_line r (shown_in mission.now line.now));
+            } }
     {
         mission.prove_sizes();
         let judged = judged_of(line);
@@ -296,7 +299,10 @@ impl Auditor {
             result ≡ says_fit mission.now told r (shown_in mission.now line.now) }
         ensures context { (told : Told) (r : RecordValue) → IsAmid mission.now told r self.old →
             self.new
-            ≡ record self.old { context = context_amid mission.now told (with_line r (shown_in mission.now line.now)) } }
+            ≡ record self.old {
+              context =
+                  context_amid mission.now told (with_line r (shown_in mission.now line.now));
+            } }
     {
         if let Some(first) = &self.part.first {
             return says_same(mission, line, first);
@@ -445,7 +451,8 @@ impl Auditor {
         requires context { length self.old.context ≡ mission.now.rules.blocks }
         ensures { (told : Told) (r : RecordValue) (left : Option ℕ) → EndsAmid mission.now told r self.old →
             is_empty r.lines ≡ false →
-            StandsAt mission.now (after_cycle mission.now.actuator (closed_record r removed joined left ∷ told)) self.new }
+            StandsAt mission.now (after_cycle mission.now.actuator (closed_record r removed joined left ∷ told))
+            self.new }
     {
         mission.prove_sizes();
         self.words = words_after(mission, &self.context, &self.words, natives);

@@ -102,7 +102,8 @@ fn cast(words: &[i64]) -> [Option<i64>; 8]
 pub fn votes_fit(mission: &Mission, context: &Context, line: &ChannelLine) -> bool
     requires { length context.now ≡ mission.now.rules.blocks }
     ensures { result
-        ≡ same_votes (take (length mission.now.outputs) line.now.votes) (map (λ w. Some w) (output_words mission.now context.now)) }
+        ≡ same_votes (take (length mission.now.outputs) line.now.votes)
+        (map (λ w. Some w) (output_words mission.now context.now)) }
 {
     mission.prove_sizes();
     let outputs = mission.outputs().len();
@@ -222,7 +223,8 @@ pub fn words_after<C: Calls>(
     requires { length context.now ≡ mission.now.rules.blocks }
     ensures { (actuator : ActuatorValue) → mission.now.actuator ≡ Some actuator →
         take (length mission.now.outputs) result
-        ≡ words_towards actuator.steps (take (length mission.now.outputs) last.now) (output_words mission.now context.now) }
+        ≡ words_towards actuator.steps (take (length mission.now.outputs) last.now)
+        (output_words mission.now context.now) }
 {
     mission.prove_sizes();
     let wanted = mission.output_words(context);

@@ -17,7 +17,8 @@ use Rattle.voter.specs.Sensors.{words_in, OthersAreThere, IsOthersWord}
 abbrev Words : Type 0
 Words = List (Option SourceValue)
 
-in_range_by : (a n b : ℕ) (same : Bool) → (a == b) ≡ same → (same || has (range_with_len (a + 1) n) b) ≡ true → (has (range_with_len (a + 1) n) b ≡ true → b < a + 1 + n) → b < a + suc n
+in_range_by : (a n b : ℕ) (same : Bool) → (a == b) ≡ same → (same || has (range_with_len (a + 1) n) b) ≡ true →
+    (has (range_with_len (a + 1) n) b ≡ true → b < a + 1 + n) → b < a + suc n
 in_range_by a n b true e h more = let same : a ≡ b = eqb-true a b e in omega (arith, same)
 in_range_by a n b false e h more = let later : b < a + 1 + n = more h in omega (arith, later)
 
@@ -36,16 +37,19 @@ same : (n : ℕ) → (n == n) ≡ true
 same n = grind arith
 
 -- what a test drops holds nothing
-present_kept : (p : ℕ → Bool) (at : ℕ → Option SourceValue) (xs : List ℕ) → ((q : ℕ) → has xs q ≡ true → p q ≡ false → at q ≡ None) →
+present_kept : (p : ℕ → Bool) (at : ℕ → Option SourceValue) (xs : List ℕ) →
+    ((q : ℕ) → has xs q ≡ true → p q ≡ false → at q ≡ None) →
     present (map at (filter p xs)) ≡ present (map at xs)
 present_kept p at [] h = refl
 present_kept p at (x ∷ xs) h =
     by_first (p x) refl (present_kept p at xs (λ q k. h q (or_right (x == q) (has xs q) k)))
   where
-    by_first : (b : Bool) → p x ≡ b → present (map at (filter p xs)) ≡ present (map at xs) → present (map at (cond b (x ∷ filter p xs) (filter p xs))) ≡ present (map at (x ∷ xs))
+    by_first : (b : Bool) → p x ≡ b → present (map at (filter p xs)) ≡ present (map at xs) →
+        present (map at (cond b (x ∷ filter p xs) (filter p xs))) ≡ present (map at (x ∷ xs))
     by_first true e rest = front (at x) rest
       where
-        front : (o : Option SourceValue) → present (map at (filter p xs)) ≡ present (map at xs) → present (o ∷ map at (filter p xs)) ≡ present (o ∷ map at xs)
+        front : (o : Option SourceValue) → present (map at (filter p xs)) ≡ present (map at xs) →
+            present (o ∷ map at (filter p xs)) ≡ present (o ∷ map at xs)
         front None rest = rest
         front (Some w) rest = ap (λ ws. w ∷ ws) rest
     by_first false e rest =
@@ -83,7 +87,8 @@ module _ (s : ChannelSet) (whole : s ≡ channels_where (has s)) (words : Words)
   masked_is q h = at-by_channel masked_at q None h
 
   -- the members' words, with and without the mask
-  kept_words : (xs : List ℕ) → ((q : ℕ) → has xs q ≡ true → has s q ≡ true) → map masked_at xs ≡ map (λ q. place_or words q None) xs
+  kept_words : (xs : List ℕ) → ((q : ℕ) → has xs q ≡ true → has s q ≡ true) →
+      map masked_at xs ≡ map (λ q. place_or words q None) xs
   unfolding masked_at at
   kept_words [] h = refl
   kept_words (x ∷ xs) h =
@@ -98,10 +103,12 @@ module _ (s : ChannelSet) (whole : s ≡ channels_where (has s)) (words : Words)
       ∙ ap present (kept_words s (λ q k. k))
 
   pub inputs_masked : (width : ℕ) → inputs_of width masked ≡ inputs_of width (words_in s words)
-  inputs_masked width = ap (λ ws. map (λ k. lower_median (map (λ (w : SourceValue). word_of w.words k) ws)) (numbers_below width)) present_masked
+  inputs_masked width = ap (λ ws.
+      map (λ k. lower_median (map (λ (w : SourceValue). word_of w.words k) ws)) (numbers_below width)) present_masked
 
   -- where no passive channel has a word, all words count
-  pub inputs_whole : (width : ℕ) → length words ≡ 7 → ((q : Channel) → q < 7 → has s q ≡ false → place_or words q None ≡ None) →
+  pub inputs_whole : (width : ℕ) → length words ≡ 7 →
+      ((q : Channel) → q < 7 → has s q ≡ false → place_or words q None ≡ None) →
       inputs_of width (words_in s words) ≡ inputs_of width words
   unfolding by_channel channels_where
   inputs_whole width long none =
@@ -130,12 +137,14 @@ module _ (s : ChannelSet) (whole : s ≡ channels_where (has s)) (words : Words)
         set = is_a_set;
         few = others.few;
         table = refl;
-        sent = λ q member good. masked_is q (member-channel s q is_a_set member) ∙ ap (λ b. cond b (place_or words q None) None) member
+        sent = λ q member good. masked_is q (member-channel s q is_a_set member)
+            ∙ ap (λ b. cond b (place_or words q None) None) member
             ∙ own_is (place_or words q None) (others.there q member good);
         passive = λ q low out. masked_is q low ∙ ap (λ b. cond b (place_or words q None) None) out;
       }
 
-  others_word : (disturbed : ChannelSet) (k : ℕ) → OthersAreThere s disturbed words → (q : Channel) → IsCorrect s disturbed q → IsOthersWord s disturbed words k (word_of (own q).words k)
+  others_word : (disturbed : ChannelSet) (k : ℕ) → OthersAreThere s disturbed words → (q : Channel) →
+      IsCorrect s disturbed q → IsOthersWord s disturbed words k (word_of (own q).words k)
   unfolding own at
   others_word disturbed k others q fine =
       record {
@@ -157,24 +166,39 @@ module _ (s : ChannelSet) (whole : s ≡ channels_where (has s)) (words : Words)
   length_map f a (suc n) = ap suc (length_map f (a + 1) n)
 
   -- the consolidated word of a place, where the array is padded
-  consolidated : (width n k : ℕ) (result : List ℤ) → result ≡ inputs_of width (words_in s words) ++ replicate n (pos 0) → k < width → word_of (inputs_of width masked) k ≡ word_of result k
+  consolidated : (width n k : ℕ) (result : List ℤ) →
+      result ≡ inputs_of width (words_in s words) ++ replicate n (pos 0) → k < width →
+      word_of (inputs_of width masked) k ≡ word_of result k
   consolidated width n k result e h =
       let long : length (inputs_of width (words_in s words)) ≡ width
-      = length_map (λ k. lower_median (map (λ (w : SourceValue). word_of w.words k) (present (words_in s words)))) 0 width in
+      = length_map (λ k. lower_median (map (λ (w : SourceValue). word_of w.words k) (present (words_in s words)))) 0
+      width in
       ap (λ xs. word_of xs k) (inputs_masked width)
       ∙ sym (front_word (inputs_of width (words_in s words)) (replicate n (pos 0)) k (omega (arith, long, h)))
       ∙ ap (λ xs. word_of xs k) (sym e)
 
-  pub least_bound : (disturbed : ChannelSet) (width n k : ℕ) (result : List ℤ) → result ≡ inputs_of width (words_in s words) ++ replicate n (pos 0) → OthersAreThere s disturbed words → k < width →
+  pub least_bound : (disturbed : ChannelSet) (width n k : ℕ) (result : List ℤ) →
+      result ≡ inputs_of width (words_in s words) ++ replicate n (pos 0) → OthersAreThere s disturbed words →
+      k < width →
       (w : ℤ) × IsOthersWord s disturbed words k w × (w ≤ℤ word_of result k)
   least_bound disturbed width n k result e others h =
-      let found : (q : Channel) × IsCorrect s disturbed q × (word_of (own q).words k ≤ℤ word_of (inputs_of width masked) k)
-      = least_of s disturbed own masked (settled disturbed others) k width h in
-      (word_of (own found.0).words k, others_word disturbed k others found.0 found.1, subst (λ z. word_of (own found.0).words k ≤ℤ z) (consolidated width n k result e h) found.2)
+      let found : (q : Channel) × IsCorrect s disturbed q
+      × (word_of (own q).words k ≤ℤ word_of (inputs_of width masked) k)
+      = least_of s disturbed own masked (settled disturbed others) k width h in (
+        word_of (own found.0).words k,
+        others_word disturbed k others found.0 found.1,
+        subst (λ z. word_of (own found.0).words k ≤ℤ z) (consolidated width n k result e h) found.2,
+      )
 
-  pub greatest_bound : (disturbed : ChannelSet) (width n k : ℕ) (result : List ℤ) → result ≡ inputs_of width (words_in s words) ++ replicate n (pos 0) → OthersAreThere s disturbed words → k < width →
+  pub greatest_bound : (disturbed : ChannelSet) (width n k : ℕ) (result : List ℤ) →
+      result ≡ inputs_of width (words_in s words) ++ replicate n (pos 0) → OthersAreThere s disturbed words →
+      k < width →
       (w : ℤ) × IsOthersWord s disturbed words k w × (word_of result k ≤ℤ w)
   greatest_bound disturbed width n k result e others h =
-      let found : (q : Channel) × IsCorrect s disturbed q × (word_of (inputs_of width masked) k ≤ℤ word_of (own q).words k)
-      = greatest_of s disturbed own masked (settled disturbed others) k width h in
-      (word_of (own found.0).words k, others_word disturbed k others found.0 found.1, subst (λ z. z ≤ℤ word_of (own found.0).words k) (consolidated width n k result e h) found.2)
+      let found : (q : Channel) × IsCorrect s disturbed q
+      × (word_of (inputs_of width masked) k ≤ℤ word_of (own q).words k)
+      = greatest_of s disturbed own masked (settled disturbed others) k width h in (
+        word_of (own found.0).words k,
+        others_word disturbed k others found.0 found.1,
+        subst (λ z. z ≤ℤ word_of (own found.0).words k) (consolidated width n k result e h) found.2,
+      )

@@ -14,7 +14,8 @@ pub record OthersAreThere (active disturbed : ChannelSet) (words : List (Option 
   pub there : (q : Channel) → has active q ≡ true → has disturbed q ≡ false → IsSome (place_or words q None)
 
 -- a word of a channel that is active and not called disturbed
-pub record IsOthersWord (active disturbed : ChannelSet) (words : List (Option SourceValue)) (place : ℕ) (word : ℤ) : Type 0 where
+pub record IsOthersWord (active disturbed : ChannelSet) (words : List (Option SourceValue)) (place : ℕ)
+    (word : ℤ) : Type 0 where
   pub channel : Channel
   pub source : SourceValue
   pub member : has active channel ≡ true

@@ -28,7 +28,8 @@ fn votes_at(ballots: &[Option<Ballot>; 7], active: ChanSet, place: usize) -> Arr
 
 // The vote at one place.
 fn vote_at(ballots: &[Option<Ballot>; 7], active: ChanSet, place: usize) -> Option<i64>
-    ensures { result ≡ majority_of int_eq (length active) (map (λ words. word_of words place) (cast_of active ballots.now)) }
+    ensures { result ≡ majority_of int_eq (length active)
+        (map (λ words. word_of words place) (cast_of active ballots.now)) }
 {
     let votes = votes_at(ballots, active, place);
     majority(votes.as_slice(), active.count())

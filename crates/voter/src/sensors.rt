@@ -43,8 +43,8 @@ fn prove_members(set: ChanSet)
 /// Per sensor place the lower median of the active channels' words that are there: of k words the one at place
 /// (k - 1) / 2 of their ascending order, rounded down, and 0 where k is 0. Places past the width are 0.
 ///
-/// Where fewer than a third of the active set is called disturbed and the others' words are all there, it lies per place
-/// between the least and the greatest word of the others, whatever the words of the disturbed channels are.
+/// Where fewer than a third of the active set is called disturbed and the others' words are all there, it lies per
+/// place between the least and the greatest word of the others, whatever the words of the disturbed channels are.
 pub fn consolidate(words: &[Option<SourceWord>; 7], active: ChanSet, width: u8) -> [i64; 4]
     requires { width ≤ 4 }
     ensures median { result ≡ inputs_of width (words_in active words.now) ++ replicate (4 - width) (pos 0) }

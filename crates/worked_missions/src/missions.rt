@@ -31,8 +31,8 @@ name = \"count\"
 writes = [{ block = 0, w0 = \"b0.0 + 1\" }]
 ";
 
-/// A filter of the first order over the sensors, kept within -100 to 100, and an output that follows it by at most 5 a cycle.
-/// The second of four channels reads far too much.
+/// A filter of the first order over the sensors, kept within -100 to 100, and an output that follows it by at most 5 a
+/// cycle. The second of four channels reads far too much.
 pub const FILTER: &str = "outputs = [\"b0.0\", \"b0.1\"]
 table = [[\"smooth\", \"follow\"]]
 sensors = [
@@ -53,8 +53,8 @@ name = \"follow\"
 writes = [{ block = 0, w1 = \"ramp(b0.1, b0.0, 5)\", w2 = \"mid(in0, b0.0, b0.1)\" }]
 ";
 
-/// A gate is shut (0), opens (1 to 3), stands open (4) and shuts again (5 to 7). The first input asks it to open, the second
-/// tells that the way is clear. The second output counts how often it stood open.
+/// A gate is shut (0), opens (1 to 3), stands open (4) and shuts again (5 to 7). The first input asks it to open, the
+/// second tells that the way is clear. The second output counts how often it stood open.
 pub const GATE: &str = "outputs = [\"b1.0\", \"b1.1\"]
 table = [[\"step\"], [\"step\", \"count\"]]
 sensors = [

@@ -1,7 +1,7 @@
 //! What several rows have in common, by its name: parts of texts, and entries of scripts.
 
-/// The parts, with § between them: a name, what it is, and then its lines. In a text a line of several channels stands for one of
-/// each.
+/// The parts, with § between them: a name, what it is, and then its lines. In a text a line of several channels stands
+/// for one of each.
 const PARTS: &str = "sums: Four channels sum up fives.
 cycle 0 active 0,1,2,3 transfer -
 ch 0,1,2,3 in 5 vote 5 judged - alpha 0,0,0,0

@@ -1,7 +1,8 @@
 //! Missions in which channels are removed, restored and joined.
 use crate::rows::Row;
 
-/// The rounds of the mission in which channel 4 crashes and returns, cycle by cycle: the channels that work, and their copies and writes.
+/// The rounds of the mission in which channel 4 crashes and returns, cycle by cycle: the channels that work, and their
+/// copies and writes.
 pub const ROUNDS: &str = "trace 0,1,2,3 T
 trace 0,1,2,3 T
 trace 0,1,2,3 T

@@ -10,11 +10,13 @@ use std::alloc::{AllocError, Global};
 ///
 /// It is a row of a table: its name, and lines that each begin with a word.
 ///
-/// - `base` names the mission that it changes. A `change` has a text of it and, behind a bar, what stands in its place; there ¶
+/// - `base` names the mission that it changes. A `change` has a text of it and, behind a bar, what stands in its place;
+/// there ¶
 ///   stands for the end of a line.
 /// - A `fault` is an entry of the script with a comma after it, `faults` the name of a part with some.
 /// - `done` says how many cycles finish, `carried` how many entries are carried.
-/// - `part` names a part of the text that the records of the cycles tell, with the line of a stop, and `said` is a line of it. Where
+/// - `part` names a part of the text that the records of the cycles tell, with the line of a stop, and `said` is a line
+/// of it. Where
 ///   there is a `line`, the text has just these lines among others, in this order.
 /// - A `vote` is a vote frame with one word that is sent: its version, its sender, its cycle and its word.
 #[derive(Clone, Copy)]
@@ -131,7 +133,8 @@ impl<'a> Row<'a> {
         format!(in alloc; "fault = [{faults}]\n{base}")
     }
 
-    // The text that is told, or those of its lines that the row names. A line of several channels stands for one of each.
+    // The text that is told, or those of its lines that the row names. A line of several channels stands for one of
+    // each.
     fn folded(&self, alloc: Global) -> Result<String, AllocError> {
         let mut text = String::new(alloc);
         for line in self.lines.lines() {

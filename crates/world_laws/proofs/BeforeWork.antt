@@ -20,7 +20,8 @@ use Rattle.guards_world.specs.Worlds.{WorldValue}
 use Rattle.node_laws.proofs.Holding.{all_of_flat}
 
 -- a relation of each pair whose first passes a test
-zip_weaken : {A B : Type 0} (R S : A → B → Type 0) (P : A → Bool) (xs : List A) (ys : List B) → list_all P xs ≡ true → ((x : A) (y : B) → P x ≡ true → R x y → S x y) → AllZip R xs ys → AllZip S xs ys
+zip_weaken : {A B : Type 0} (R S : A → B → Type 0) (P : A → Bool) (xs : List A) (ys : List B) → list_all P xs ≡ true →
+    ((x : A) (y : B) → P x ≡ true → R x y → S x y) → AllZip R xs ys → AllZip S xs ys
 zip_weaken R S P [] [] h f z = tt
 zip_weaken R S P [] (y ∷ ys) h f z = absurd z
 zip_weaken R S P (x ∷ xs) [] h f z = absurd z
@@ -32,7 +33,8 @@ abbrev is_early : Slot → Bool
 is_early s = nat_lt (slot_index s) 5
 
 -- only the frames of the sweep slot have copies
-owed_early : (M : MissionValue) (past : Past) (e : Cycle) (slot : Slot) (q : Channel) (to : ℕ) (places other : List ℕ) → is_early slot ≡ true → owed M past e slot q to places ≡ owed M past e slot q to other
+owed_early : (M : MissionValue) (past : Past) (e : Cycle) (slot : Slot) (q : Channel) (to : ℕ) (places other : List ℕ) →
+    is_early slot ≡ true → owed M past e slot q to places ≡ owed M past e slot q to other
 owed_early M past e Request q to places other h = refl
 owed_early M past e Round1 q to places other h = refl
 owed_early M past e Round2 q to places other h = refl
@@ -50,8 +52,10 @@ no_sweep slot h is = late (sym (ap is_early is) ∙ h)
     late : false ≡ true → ⊥
     late k = cc
 
-made_early : (M : MissionValue) (past : Past) (e : Cycle) (steps other : Steps) (carry : Carry) (entry : EntryValue) → is_early carry.slot ≡ true →
-    IsMadeBy M past e (steps_of steps carry.from) carry entry → IsMadeBy M past e (steps_of other carry.from) carry entry
+made_early : (M : MissionValue) (past : Past) (e : Cycle) (steps other : Steps) (carry : Carry) (entry : EntryValue) →
+    is_early carry.slot ≡ true →
+    IsMadeBy M past e (steps_of steps carry.from) carry entry →
+    IsMadeBy M past e (steps_of other carry.from) carry entry
 made_early M past e steps other carry entry early was =
     record {
       cycle = was.cycle;
@@ -59,31 +63,47 @@ made_early M past e steps other carry entry early was =
       from = was.from;
       to = was.to;
       full = λ sweep. absurd (no_sweep carry.slot early sweep);
-      sent = was.sent ∙ ap (λ (b : BodyValue). spelling (frame_on M carry b)) (owed_early M past e carry.slot carry.from carry.to (writes_before (steps_of steps carry.from)) (writes_before (steps_of other carry.from)) early);
+      sent = was.sent ∙ ap (λ (b : BodyValue). spelling (frame_on M carry b))
+          (owed_early M past e carry.slot carry.from carry.to (writes_before (steps_of steps carry.from))
+          (writes_before (steps_of other carry.from)) early);
     }
 
-slot_early : (c : ℕ) (e : Cycle) (slot : Slot) → is_early slot ≡ true → list_all (λ (carry : Carry). is_early carry.slot) (slot_carries c e slot) ≡ true
+slot_early : (c : ℕ) (e : Cycle) (slot : Slot) → is_early slot ≡ true →
+    list_all (λ (carry : Carry). is_early carry.slot) (slot_carries c e slot) ≡ true
 slot_early c e slot h = by_frames (carries_frames e slot)
   where
-    by_frames : (b : Bool) → list_all (λ (carry : Carry). is_early carry.slot) (cond b (flat_map (λ q. map (λ to. record { cycle = c; slot = slot; from = q; to = to }) (without (receivers e slot) (q ∷ []))) (channels_where (is_sender e slot))) []) ≡ true
+    by_frames : (b : Bool) → list_all (λ (carry : Carry). is_early carry.slot)
+        (cond b (flat_map (λ q. map (λ to. record { cycle = c; slot = slot; from = q; to = to })
+        (without (receivers e slot) (q ∷ []))) (channels_where (is_sender e slot))) []) ≡ true
     by_frames true =
-        all-flat_map (λ (carry : Carry). is_early carry.slot) (λ q. map (λ to. record { cycle = c; slot = slot; from = q; to = to }) (without (receivers e slot) (q ∷ []))) (channels_where (is_sender e slot))
-        (λ q. all-map (λ (carry : Carry). is_early carry.slot) (λ to. record { cycle = c; slot = slot; from = q; to = to }) (without (receivers e slot) (q ∷ [])) (λ to. h))
+        all-flat_map (λ (carry : Carry). is_early carry.slot)
+        (λ q. map (λ to. record { cycle = c; slot = slot; from = q; to = to })
+        (without (receivers e slot) (q ∷ []))) (channels_where (is_sender e slot))
+        (λ q. all-map (λ (carry : Carry). is_early carry.slot)
+        (λ to. record { cycle = c; slot = slot; from = q; to = to }) (without (receivers e slot) (q ∷ []))
+        (λ to. h))
     by_frames false = refl
 
-done_early : (c : ℕ) (e : Cycle) → list_all (λ (carry : Carry). is_early carry.slot) (carries_done c e (stage_before Vote)) ≡ true
-done_early c e = all_of_flat (λ (carry : Carry). is_early carry.slot) is_early (slot_carries c e) (Request ∷ Round1 ∷ Round2 ∷ Round3 ∷ Tasks ∷ []) refl (slot_early c e)
+done_early : (c : ℕ) (e : Cycle) →
+    list_all (λ (carry : Carry). is_early carry.slot) (carries_done c e (stage_before Vote)) ≡ true
+done_early c e = all_of_flat (λ (carry : Carry). is_early carry.slot) is_early (slot_carries c e)
+    (Request ∷ Round1 ∷ Round2 ∷ Round3 ∷ Tasks ∷ []) refl (slot_early c e)
 
-node_early : (M : MissionValue) (L : Log) (n : ℕ) (steps other : Steps) (q : Channel) → node_in M L n steps Tasks (stage_before Tasks) q ≡ node_in M L n other Tasks (stage_before Tasks) q
+node_early : (M : MissionValue) (L : Log) (n : ℕ) (steps other : Steps) (q : Channel) →
+    node_in M L n steps Tasks (stage_before Tasks) q ≡ node_in M L n other Tasks (stage_before Tasks) q
 unfolding state_in
 node_early M L n steps other q = refl
 
-nodes_early : (M : MissionValue) (L : Log) (n : ℕ) (steps other : Steps) (qs : List Channel) → map (node_in M L n steps Tasks (stage_before Tasks)) qs ≡ map (node_in M L n other Tasks (stage_before Tasks)) qs
+nodes_early : (M : MissionValue) (L : Log) (n : ℕ) (steps other : Steps) (qs : List Channel) →
+    map (node_in M L n steps Tasks (stage_before Tasks)) qs ≡ map (node_in M L n other Tasks (stage_before Tasks)) qs
 nodes_early M L n steps other [] = refl
 nodes_early M L n steps other (q ∷ qs) =
-    ap (λ x. x ∷ map (node_in M L n steps Tasks (stage_before Tasks)) qs) (node_early M L n steps other q) ∙ ap (λ xs. node_in M L n other Tasks (stage_before Tasks) q ∷ xs) (nodes_early M L n steps other qs)
+    ap (λ x. x ∷ map (node_in M L n steps Tasks (stage_before Tasks)) qs) (node_early M L n steps other q)
+    ∙ ap (λ xs. node_in M L n other Tasks (stage_before Tasks) q ∷ xs) (nodes_early M L n steps other qs)
 
-pub comes_later : (M : MissionValue) (earlier current : Log) (steps other : Steps) (w : WorldValue) → InCycle M earlier current steps Tasks (stage_after Tasks) (stage_before Tasks) w → InCycle M earlier current other Tasks (stage_after Tasks) (stage_before Tasks) w
+pub comes_later : (M : MissionValue) (earlier current : Log) (steps other : Steps) (w : WorldValue) →
+    InCycle M earlier current steps Tasks (stage_after Tasks) (stage_before Tasks) w →
+    InCycle M earlier current other Tasks (stage_after Tasks) (stage_before Tasks) w
 comes_later M earlier current steps other w inside =
     let past = cycles_before M (earlier ++ current) w.done in
     let e = cycle_at M (earlier ++ current) w.done in
@@ -95,8 +115,10 @@ comes_later M earlier current steps other w inside =
       count = inside.count;
       before = inside.before;
       unstopped = inside.unstopped;
-      made = zip_weaken (λ carry entry. IsMadeBy M past e (steps_of steps carry.from) carry entry) (λ carry entry. IsMadeBy M past e (steps_of other carry.from) carry entry)
-          (λ (carry : Carry). is_early carry.slot) (carries_done w.done e (stage_before Vote)) current (done_early w.done e) (made_early M past e steps other) inside.made;
+      made = zip_weaken (λ carry entry. IsMadeBy M past e (steps_of steps carry.from) carry entry)
+          (λ carry entry. IsMadeBy M past e (steps_of other carry.from) carry entry)
+          (λ (carry : Carry). is_early carry.slot) (carries_done w.done e (stage_before Vote)) current
+          (done_early w.done e) (made_early M past e steps other) inside.made;
       unhalted = inside.unhalted;
       nodes = inside.nodes ∙ nodes_early M (earlier ++ current) w.done steps other (channels_of M);
       ledger = inside.ledger;

@@ -37,11 +37,13 @@ as_many_mapped f [] = refl
 as_many_mapped f (x ∷ xs) = ap suc (as_many_mapped f xs)
 
 -- of each at most seven, and at most 49
-all_sevens : {A B : Type 0} (f : A → List B) (xs : List A) → ((x : A) → length (f x) ≤ 7) → length (flat_map f xs) ≤ 7 * length xs
+all_sevens : {A B : Type 0} (f : A → List B) (xs : List A) → ((x : A) → length (f x) ≤ 7) →
+    length (flat_map f xs) ≤ 7 * length xs
 all_sevens f [] few = omega arith
 all_sevens f (x ∷ xs) few = omega (arith, length-append (f x) (flat_map f xs), few x, all_sevens f xs few)
 
-all_of_slots : {A B : Type 0} (f : A → List B) (xs : List A) → ((x : A) → length (f x) ≤ 49) → length (flat_map f xs) ≤ 49 * length xs
+all_of_slots : {A B : Type 0} (f : A → List B) (xs : List A) → ((x : A) → length (f x) ≤ 49) →
+    length (flat_map f xs) ≤ 49 * length xs
 all_of_slots f [] few = omega arith
 all_of_slots f (x ∷ xs) few = omega (arith, length-append (f x) (flat_map f xs), few x, all_of_slots f xs few)
 
@@ -80,22 +82,37 @@ module _ (M : MissionValue) (K : Log) (mission : IsMission M) where
   few_carries c n slot = by_frames (carries_frames (cycle_at M K n) slot)
     where
       row : ℕ → List Carry
-      row q = map (λ to. record { cycle = c; slot = slot; from = q; to = to }) (without (receivers (cycle_at M K n) slot) (q ∷ []))
+      row q = map (λ to. record { cycle = c; slot = slot; from = q; to = to })
+          (without (receivers (cycle_at M K n) slot) (q ∷ []))
 
       in_row : (q : ℕ) → length (row q) ≤ 7
       in_row q =
           let to_carry : ℕ → Carry = λ to. record { cycle = c; slot = slot; from = q; to = to } in
-          omega (arith, as_many_mapped to_carry (without (receivers (cycle_at M K n) slot) (q ∷ [])), fewer_kept (λ x. not (has (q ∷ []) x)) (receivers (cycle_at M K n) slot), few_receivers n slot)
+          omega (
+            arith,
+            as_many_mapped to_carry (without (receivers (cycle_at M K n) slot) (q ∷ [])),
+            fewer_kept (λ x. not (has (q ∷ []) x)) (receivers (cycle_at M K n) slot),
+            few_receivers n slot,
+          )
 
-      by_frames : (b : Bool) → length (cond b (flat_map row (filter (is_sender (cycle_at M K n) slot) every_channel)) []) ≤ 49
+      by_frames : (b : Bool) → length
+          (cond b (flat_map row (filter (is_sender (cycle_at M K n) slot) every_channel)) []) ≤ 49
       by_frames true =
-          omega (arith, all_sevens row (filter (is_sender (cycle_at M K n) slot) every_channel) in_row, fewer_kept (is_sender (cycle_at M K n) slot) every_channel)
+          omega (
+            arith,
+            all_sevens row (filter (is_sender (cycle_at M K n) slot) every_channel) in_row,
+            fewer_kept (is_sender (cycle_at M K n) slot) every_channel,
+          )
       by_frames false = omega arith
 
   -- ---- a cycle, and some cycles
 
   few_done : (c n carried : ℕ) → length (carries_done c (cycle_at M K n) carried) ≤ 441
-  few_done c n carried = omega (arith, all_of_slots (slot_carries c (cycle_at M K n)) (take carried every_slot) (few_carries c n), fewer_taken carried every_slot)
+  few_done c n carried = omega (
+    arith,
+    all_of_slots (slot_carries c (cycle_at M K n)) (take carried every_slot) (few_carries c n),
+    fewer_taken carried every_slot,
+  )
 
   few_due : (n : ℕ) (entries : Log) → AreDue M (cycles_before M K n) entries → length entries ≤ 441 * n
   few_due zero entries due = omega (arith, ap (λ (xs : Log). length xs) due)
@@ -112,11 +129,14 @@ module _ (M : MissionValue) (K : Log) (mission : IsMission M) where
         few_done c n 9,
       )
 
-pub slot_fits : (M : MissionValue) (earlier current : Log) (steps : Steps) (last slot : Slot) (carried handed : ℕ) (w : WorldValue) → InCycle M earlier current steps last carried handed w →
+pub slot_fits : (M : MissionValue) (earlier current : Log) (steps : Steps) (last slot : Slot) (carried handed : ℕ)
+    (w : WorldValue) → InCycle M earlier current steps last carried handed w →
     length (slot_carries w.done (cycle_at M (earlier ++ current) w.done) slot) ≤ 49
-slot_fits M earlier current steps last slot carried handed w inside = few_carries M (earlier ++ current) inside.ranges w.done w.done slot
+slot_fits M earlier current steps last slot carried handed w inside =
+    few_carries M (earlier ++ current) inside.ranges w.done w.done slot
 
-pub carried_fit : (M : MissionValue) (earlier current : Log) (steps : Steps) (slot : Slot) (carried handed : ℕ) (w : WorldValue) → InCycle M earlier current steps slot carried handed w → w.carried ≤ 1000000
+pub carried_fit : (M : MissionValue) (earlier current : Log) (steps : Steps) (slot : Slot) (carried handed : ℕ)
+    (w : WorldValue) → InCycle M earlier current steps slot carried handed w → w.carried ≤ 1000000
 carried_fit M earlier current steps slot carried handed w inside =
     let past = cycles_before M (earlier ++ current) w.done in
     let e = cycle_at M (earlier ++ current) w.done in
@@ -126,6 +146,7 @@ carried_fit M earlier current steps slot carried handed w inside =
       inside.below,
       (ranges M inside.ranges).cycles,
       few_due M (earlier ++ current) inside.ranges w.done earlier inside.before,
-      zip_length (λ carry entry. IsMadeBy M past e (steps_of steps carry.from) carry entry) (carries_done w.done e carried) current inside.made,
+      zip_length (λ carry entry. IsMadeBy M past e (steps_of steps carry.from) carry entry)
+          (carries_done w.done e carried) current inside.made,
       few_done M (earlier ++ current) inside.ranges w.done w.done carried,
     )

@@ -64,7 +64,8 @@ rose k on down h none = absurd cc
 rose k on (waiting n) h none = absurd cc
 rose k on joining h none = refl
 
-module _ (M : MissionValue) (earlier current : Log) (steps : Steps) (w : WorldValue) (inside : InCycle M earlier current steps Switch (stage_after Switch) (stage_after Switch) w) where
+module _ (M : MissionValue) (earlier current : Log) (steps : Steps) (w : WorldValue)
+    (inside : InCycle M earlier current steps Switch (stage_after Switch) (stage_after Switch) w) where
   abbrev n : ℕ
   n = w.done
 
@@ -93,7 +94,8 @@ module _ (M : MissionValue) (earlier current : Log) (steps : Steps) (w : WorldVa
   sound = (main_theorem M (earlier ++ current) (suc n) inside.ranges inside.below run).cycles.0
 
   made : AreMadeBy M steps past e current
-  made = subst (λ c. AllZip (λ carry entry. IsMadeBy M past e (steps_of steps carry.from) carry entry) (cycle_carries c e) current) (sym (length-cycles_before M (earlier ++ current) n)) inside.made
+  made = subst (λ c. AllZip (λ carry entry. IsMadeBy M past e (steps_of steps carry.from) carry entry)
+      (cycle_carries c e) current) (sym (length-cycles_before M (earlier ++ current) n)) inside.made
 
   node_there : (q : Channel) → q < M.rules.channels → node_of after q ≡ Some (node q)
   node_there q low = place_of node 0 M.rules.channels q low ∙ ap (λ k. Some (node k)) (from_zero q)
@@ -101,7 +103,8 @@ module _ (M : MissionValue) (earlier current : Log) (steps : Steps) (w : WorldVa
   -- ---- who goes on running
 
   abbrev ended_in : Channel → ModeValue → StateValue
-  ended_in q m = ended_state (on q) (state_of_mode (running_state M past e steps 9 q) (joiner_in M past e (stage_after Switch) q) m)
+  ended_in q m = ended_state (on q)
+      (state_of_mode (running_state M past e steps 9 q) (joiner_in M past e (stage_after Switch) q) m)
 
   node_in_mode : (q : Channel) (m : ModeValue) → mode_in e q Switch ≡ m → node q ≡ node_with M q (ended_in q m)
   unfolding state_in
@@ -112,16 +115,21 @@ module _ (M : MissionValue) (earlier current : Log) (steps : Steps) (w : WorldVa
       has-channels_where (λ p. has (without e.active e.removed) p || has e.joined p) q low
       ∙ or_left (has (without e.active e.removed) q) (has e.joined q) (has-without e.active e.removed q active kept)
 
-  trail : (q : Channel) → IsTrue (has (channels_running_in Switch e) q) → has e.removed q ≡ false → HasTrail after q n (steps_of steps q)
+  trail : (q : Channel) → IsTrue (has (channels_running_in Switch e) q) → has e.removed q ≡ false →
+      HasTrail after q n (steps_of steps q)
   trail q runs kept =
-      let parts = both (is_up (mode_in e q Switch)) (has e.active q) (sym (has-filter (λ p. is_up (mode_in e p Switch)) e.active q) ∙ runs) in
-      let low : q < M.rules.channels = active_within M (earlier ++ current) n q (sym (ap (λ (s : ChannelSet). has s q) (active-is M (earlier ++ current) past)) ∙ parts.1) in
+      let parts = both (is_up (mode_in e q Switch)) (has e.active q)
+      (sym (has-filter (λ p. is_up (mode_in e p Switch)) e.active q) ∙ runs) in
+      let low : q < M.rules.channels =
+      active_within M (earlier ++ current) n q
+      (sym (ap (λ (s : ChannelSet). has s q) (active-is M (earlier ++ current) past)) ∙ parts.1) in
       let few : M.rules.channels ≤ 7 = channels_few M inside.ranges in
       let worked : WorkedValue = worked_in M past e steps q in (
         worked,
         ap (option_and_then worked_of) (node_there q low)
             ∙ ap worked_of (node_in_mode q up (up-is (mode_in e q Switch) parts.0))
-            ∙ ap (λ b. worked_of (node_with M q (ended_state b (running (running_state M past e steps 9 q))))) (stays_on q parts.1 kept (omega (arith, low, few))),
+            ∙ ap (λ b. worked_of (node_with M q (ended_state b (running (running_state M past e steps 9 q)))))
+            (stays_on q parts.1 kept (omega (arith, low, few))),
         length-cycles_before M (earlier ++ current) n,
         refl,
       )
@@ -134,15 +142,21 @@ module _ (M : MissionValue) (earlier current : Log) (steps : Steps) (w : WorldVa
   held_by q None = refl
   held_by q (Some content) = refl
 
-  taken : (q : Channel) → IsTrue (is_whole q (e ∷ past)) → option_and_then context_of (node_of after q) ≡ context_taken M q past e
+  taken : (q : Channel) → IsTrue (is_whole q (e ∷ past)) →
+      option_and_then context_of (node_of after q) ≡ context_taken M q past e
   taken q whole =
-      let joined : has e.joined q ≡ true = (both (has e.joined q) (joins_since q (start_of e.transfer) (e ∷ past)) whole).0 in
+      let joined : has e.joined q ≡ true =
+      (both (has e.joined q) (joins_since q (start_of e.transfer) (e ∷ past)) whole).0 in
       let rises : is_up (mode_after M (e ∷ past) q) ≡ true = sound.only_whole_rise q joined ∙ whole in
-      let low : q < M.rules.channels = active_within M (earlier ++ current) (suc n) q (up_active M (earlier ++ current) inside.ranges (suc n) q (up-is (mode_after M (e ∷ past) q) rises)) in
+      let low : q < M.rules.channels =
+      active_within M (earlier ++ current) (suc n) q
+      (up_active M (earlier ++ current) inside.ranges (suc n) q (up-is (mode_after M (e ∷ past) q) rises)) in
       let few : M.rules.channels ≤ 7 = channels_few M inside.ranges in
       let was : mode_in e q Switch ≡ joining =
-      rose M.return_after (on q) (mode_in e q Switch) (ap (λ b. is_up (mode_at_end M.return_after (on q) b (mode_in e q Switch))) (sym whole) ∙ rises)
-      (λ is. differ (sym (active_in M (earlier ++ current) n inside.ranges q (omega (arith, low, few)) Switch is) ∙ joined_passive M (earlier ++ current) n q joined)) in
+      rose M.return_after (on q) (mode_in e q Switch)
+      (ap (λ b. is_up (mode_at_end M.return_after (on q) b (mode_in e q Switch))) (sym whole) ∙ rises)
+      (λ is. differ (sym (active_in M (earlier ++ current) n inside.ranges q (omega (arith, low, few)) Switch is)
+      ∙ joined_passive M (earlier ++ current) n q joined)) in
       ap (option_and_then context_of) (node_there q low)
       ∙ ap context_of (node_in_mode q joining was)
       ∙ held_by q (content_taken M q past e)
@@ -154,18 +168,28 @@ abbrev as_old : WorldValue → WorldValue → WorldValue
 as_old old w = record w { mission = old.mission; done = old.done }
 
 same_world : (old w : WorldValue) → w.mission ≡ old.mission → w.done ≡ old.done → w ≡ as_old old w
-same_world old w mission done = ap (λ (M : MissionValue). record w { mission = M }) mission ∙ ap (λ (n : ℕ). record w { mission = old.mission; done = n }) done
+same_world old w mission done =
+    ap (λ (M : MissionValue). record w { mission = M }) mission
+    ∙ ap (λ (n : ℕ). record w { mission = old.mission; done = n }) done
 
-pub finishes : (old w new : WorldValue) (earlier current : Log) (steps : Steps) (part : RecordValue) → w.mission ≡ old.mission → w.done ≡ old.done →
-    InCycle w.mission earlier current steps Switch (stage_after Switch) (stage_after Switch) w → AreFull w.mission (cycles_before w.mission (earlier ++ current) w.done) (cycle_at w.mission (earlier ++ current) w.done) steps →
-    shown w.mission.rules.channels w.mission.width (length w.mission.outputs) part ≡ cycle_record w.mission steps w.done (cycle_at w.mission (earlier ++ current) w.done) →
-    AllByRecursion (IsLinePadded w.mission) part.lines → new ≡ world_after w.mission earlier current steps w.done w.carried → Ends old earlier current (Ok part) new
+pub finishes : (old w new : WorldValue) (earlier current : Log) (steps : Steps) (part : RecordValue) →
+    w.mission ≡ old.mission → w.done ≡ old.done →
+    InCycle w.mission earlier current steps Switch (stage_after Switch) (stage_after Switch) w →
+    AreFull w.mission (cycles_before w.mission (earlier ++ current) w.done)
+    (cycle_at w.mission (earlier ++ current) w.done) steps →
+    shown w.mission.rules.channels w.mission.width (length w.mission.outputs) part
+    ≡ cycle_record w.mission steps w.done (cycle_at w.mission (earlier ++ current) w.done) →
+    AllByRecursion (IsLinePadded w.mission) part.lines →
+    new ≡ world_after w.mission earlier current steps w.done w.carried → Ends old earlier current (Ok part) new
 finishes old w new earlier current steps part mission done inside full record_is padded new_is =
     let M = old.mission in
     let same = same_world old w mission done in
     let x = as_old old w in
-    let within : InCycle M earlier current steps Switch (stage_after Switch) (stage_after Switch) x = subst (λ (v : WorldValue). InCycle v.mission earlier current steps Switch (stage_after Switch) (stage_after Switch) v) same inside in
-    let ends : world_after M earlier current steps old.done w.carried ≡ new = sym (new_is ∙ ap (λ (v : WorldValue). world_after v.mission earlier current steps v.done v.carried) same) in (
+    let within : InCycle M earlier current steps Switch (stage_after Switch) (stage_after Switch) x =
+    subst (λ (v : WorldValue).
+    InCycle v.mission earlier current steps Switch (stage_after Switch) (stage_after Switch) v) same inside in
+    let ends : world_after M earlier current steps old.done w.carried ≡ new =
+    sym (new_is ∙ ap (λ (v : WorldValue). world_after v.mission earlier current steps v.done v.carried) same) in (
       cycle_at M (earlier ++ current) old.done,
       cycles_before M (earlier ++ current) old.done,
       record {
@@ -173,27 +197,41 @@ finishes old w new earlier current steps part mission done inside full record_is
         facts = refl;
         steps = steps;
         due = made M earlier current steps x within;
-        full = subst (λ (v : WorldValue). AreFull v.mission (cycles_before v.mission (earlier ++ current) v.done) (cycle_at v.mission (earlier ++ current) v.done) steps) same full;
+        full = subst (λ (v : WorldValue).
+            AreFull v.mission (cycles_before v.mission (earlier ++ current) v.done)
+            (cycle_at v.mission (earlier ++ current) v.done) steps) same full;
         padded = subst (λ (v : WorldValue). AllByRecursion (IsLinePadded v.mission) part.lines) same padded;
-        record_is = subst (λ (v : WorldValue). shown v.mission.rules.channels v.mission.width (length v.mission.outputs) part ≡ cycle_record v.mission steps v.done (cycle_at v.mission (earlier ++ current) v.done)) same record_is;
+        record_is = subst (λ (v : WorldValue).
+            shown v.mission.rules.channels v.mission.width (length v.mission.outputs) part
+            ≡ cycle_record v.mission steps v.done (cycle_at v.mission (earlier ++ current) v.done)) same record_is;
         mission = sym (ap (λ (v : WorldValue). v.mission) ends);
         done = sym (ap (λ (v : WorldValue). v.done) ends);
         spent = sym (ap (λ (v : WorldValue). v.spent) ends);
-        stands = subst (λ (v : WorldValue). StandsForWorld v (earlier ++ current)) ends (stands M earlier current steps x within);
+        stands = subst (λ (v : WorldValue). StandsForWorld v (earlier ++ current)) ends
+            (stands M earlier current steps x within);
         sound = sound M earlier current steps x within;
-        trails = λ q runs kept. subst (λ (v : WorldValue). HasTrail v q old.done (steps_of steps q)) ends (trail M earlier current steps x within q runs kept);
-        taken = λ q whole. subst (λ (v : WorldValue). option_and_then context_of (node_of v q) ≡ context_taken M q (cycles_before M (earlier ++ current) old.done) (cycle_at M (earlier ++ current) old.done)) ends (taken M earlier current steps x within q whole);
+        trails = λ q runs kept. subst (λ (v : WorldValue). HasTrail v q old.done (steps_of steps q)) ends
+            (trail M earlier current steps x within q runs kept);
+        taken = λ q whole. subst (λ (v : WorldValue). option_and_then context_of (node_of v q)
+            ≡ context_taken M q (cycles_before M (earlier ++ current) old.done)
+            (cycle_at M (earlier ++ current) old.done)) ends (taken M earlier current steps x within q whole);
       },
     )
 
-pub stops : (old w new : WorldValue) (earlier current : Log) (steps : Steps) (stop : StopValue) → w.mission ≡ old.mission → w.done ≡ old.done →
-    IsStopIn w.mission earlier current w.done steps stop.slot → stop_in w.done (cycle_at w.mission (earlier ++ current) w.done) ≡ Some stop →
-    (slot_index Tasks < slot_index stop.slot → AreFull w.mission (cycles_before w.mission (earlier ++ current) w.done) (cycle_at w.mission (earlier ++ current) w.done) steps) →
-    new.mission ≡ w.mission → new.done ≡ w.done → new.spent ≡ Some (disturbed stop) → Ends old earlier current (Err (disturbed stop)) new
+pub stops : (old w new : WorldValue) (earlier current : Log) (steps : Steps) (stop : StopValue) →
+    w.mission ≡ old.mission → w.done ≡ old.done →
+    IsStopIn w.mission earlier current w.done steps stop.slot →
+    stop_in w.done (cycle_at w.mission (earlier ++ current) w.done) ≡ Some stop →
+    (slot_index Tasks < slot_index stop.slot →
+    AreFull w.mission (cycles_before w.mission (earlier ++ current) w.done)
+    (cycle_at w.mission (earlier ++ current) w.done) steps) →
+    new.mission ≡ w.mission → new.done ≡ w.done → new.spent ≡ Some (disturbed stop) →
+    Ends old earlier current (Err (disturbed stop)) new
 stops old w new earlier current steps stop mission done halts stop_is full kept count spent =
     let M = old.mission in
     let same = same_world old w mission done in
-    let within : IsStopIn M earlier current old.done steps stop.slot = subst (λ (v : WorldValue). IsStopIn v.mission earlier current v.done steps stop.slot) same halts in (
+    let within : IsStopIn M earlier current old.done steps stop.slot =
+    subst (λ (v : WorldValue). IsStopIn v.mission earlier current v.done steps stop.slot) same halts in (
       cycle_at M (earlier ++ current) old.done,
       cycles_before M (earlier ++ current) old.done,
       record {
@@ -201,8 +239,11 @@ stops old w new earlier current steps stop mission done halts stop_is full kept 
         facts = refl;
         steps = steps;
         due = within.due;
-        full = λ passed. subst (λ (v : WorldValue). AreFull v.mission (cycles_before v.mission (earlier ++ current) v.done) (cycle_at v.mission (earlier ++ current) v.done) steps) same (full passed);
-        stop_is = subst (λ (v : WorldValue). stop_in v.done (cycle_at v.mission (earlier ++ current) v.done) ≡ Some stop) same stop_is;
+        full = λ passed. subst (λ (v : WorldValue).
+            AreFull v.mission (cycles_before v.mission (earlier ++ current) v.done)
+            (cycle_at v.mission (earlier ++ current) v.done) steps) same (full passed);
+        stop_is = subst (λ (v : WorldValue). stop_in v.done (cycle_at v.mission (earlier ++ current) v.done)
+            ≡ Some stop) same stop_is;
         before = within.before;
         mission = kept ∙ mission;
         done = count ∙ done;
@@ -210,8 +251,10 @@ stops old w new earlier current steps stop mission done halts stop_is full kept 
       },
     )
 
-pub runs_out : (old w new : WorldValue) (earlier current : Log) → w.mission ≡ old.mission → w.done ≡ old.done → IsFront w.mission earlier current w.done →
-    new.mission ≡ w.mission → new.done ≡ w.done → new.spent ≡ Some no_memory → Ends old earlier current (Err no_memory) new
+pub runs_out : (old w new : WorldValue) (earlier current : Log) → w.mission ≡ old.mission → w.done ≡ old.done →
+    IsFront w.mission earlier current w.done →
+    new.mission ≡ w.mission → new.done ≡ w.done → new.spent ≡ Some no_memory →
+    Ends old earlier current (Err no_memory) new
 runs_out old w new earlier current mission done front kept count spent =
     let M = old.mission in
     let same = same_world old w mission done in (

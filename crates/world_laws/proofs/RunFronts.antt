@@ -43,12 +43,18 @@ all_taken P (suc few) (x ∷ xs) h =
     and_true (P x) (list_all P (take few xs)) parts.0 (all_taken P few xs parts.1)
 
 -- a longer front of a list makes no fewer
-longer_front : {A B : Type 0} (f : A → List B) (few more : ℕ) (xs : List A) → few ≤ more → length (flat_map f (take few xs)) ≤ length (flat_map f (take more xs))
+longer_front : {A B : Type 0} (f : A → List B) (few more : ℕ) (xs : List A) → few ≤ more →
+    length (flat_map f (take few xs)) ≤ length (flat_map f (take more xs))
 longer_front f zero more xs h = omega arith
 longer_front f (suc few) zero xs h = absurd (omega (arith, h))
 longer_front f (suc few) (suc more) [] h = omega arith
 longer_front f (suc few) (suc more) (x ∷ xs) h =
-    omega (arith, length-append (f x) (flat_map f (take few xs)), length-append (f x) (flat_map f (take more xs)), longer_front f few more xs (omega (arith, h)))
+    omega (
+      arith,
+      length-append (f x) (flat_map f (take few xs)),
+      length-append (f x) (flat_map f (take more xs)),
+      longer_front f few more xs (omega (arith, h)),
+    )
 
 -- ---- the carries up to a slot
 
@@ -68,16 +74,19 @@ through_is : (c : ℕ) (e : Cycle) (slot : Slot) → carries_through c e slot �
 through_is c e slot = ap (flat_map (slot_carries c e)) (slots_through slot)
 
 -- those of a slot that is not earlier are no fewer
-pub later_through : (c : ℕ) (e : Cycle) (slot later : Slot) → slot_index slot ≤ slot_index later → length (carries_through c e slot) ≤ length (carries_through c e later)
+pub later_through : (c : ℕ) (e : Cycle) (slot later : Slot) → slot_index slot ≤ slot_index later →
+    length (carries_through c e slot) ≤ length (carries_through c e later)
 later_through c e slot later h =
     rw (through_is c e slot, through_is c e later)
     (longer_front (slot_carries c e) (suc (slot_index slot)) (suc (slot_index later)) every_slot (omega (arith, h)))
 
 -- ---- within a slot
 
-module _ (M : MissionValue) (earlier current new : Log) (steps : Steps) (slot : Slot) (on : on_bus slot ≡ true) (w : WorldValue)
+module _ (M : MissionValue) (earlier current new : Log) (steps : Steps) (slot : Slot) (on : on_bus slot ≡ true)
+    (w : WorldValue)
     (inside : InCycle M earlier current steps slot (stage_before slot) (stage_before slot) w) (few : ℕ)
-    (carried : AreDueCarries M (earlier ++ current) w.done steps (take few (slot_carries w.done (cycle_at M (earlier ++ current) w.done) slot)) new) where
+    (carried : AreDueCarries M (earlier ++ current) w.done steps
+    (take few (slot_carries w.done (cycle_at M (earlier ++ current) w.done) slot)) new) where
   abbrev n : ℕ
   n = w.done
 
@@ -93,7 +102,8 @@ module _ (M : MissionValue) (earlier current new : Log) (steps : Steps) (slot : 
   late : AreFromPlace n (slot_index slot) new
   late =
       placed M (cycles_before M K n) e steps n slot (take few (slot_carries n e slot)) new
-      (all_taken (λ (carry : Carry). carry.cycle == n && nat_le (slot_index slot) (slot_index carry.slot)) few (slot_carries n e slot) (placed_carries n e slot)) carried
+      (all_taken (λ (carry : Carry). carry.cycle == n && nat_le (slot_index slot) (slot_index carry.slot)) few
+      (slot_carries n e slot) (placed_carries n e slot)) carried
 
   abbrev past : Past
   past = cycles_before M K n
@@ -103,7 +113,8 @@ module _ (M : MissionValue) (earlier current new : Log) (steps : Steps) (slot : 
 
   -- what holds of the cycle with the new entries holds of the longer log
   at_log : (Φ : Cycle → Type 0) → Φ more → Φ after
-  at_log Φ h = subst (λ (X : Log). Φ (cycle_at M X n)) (append_assoc earlier current new) (grown M K new n steps slot on late (λ p x. Φ x) h)
+  at_log Φ h = subst (λ (X : Log). Φ (cycle_at M X n)) (append_assoc earlier current new)
+      (grown M K new n steps slot on late (λ p x. Φ x) h)
 
   -- no more was carried than up to the end of the slot
   within_slot : length (current ++ new) ≤ length (carries_through n after slot)
@@ -111,15 +122,18 @@ module _ (M : MissionValue) (earlier current new : Log) (steps : Steps) (slot : 
     where
       before : length current ≡ length (carries_done n more (stage_before slot))
       before =
-          zip_length (λ carry entry. IsMadeBy M past more (steps_of steps carry.from) carry entry) (carries_done n more (stage_before slot)) current
+          zip_length (λ carry entry. IsMadeBy M past more (steps_of steps carry.from) carry entry)
+          (carries_done n more (stage_before slot)) current
           (stay_made M K new n steps slot on late current inside.made)
 
       here : length new ≡ length (take few (slot_carries n more slot))
       here =
-          zip_length (λ carry entry. IsMadeBy M past more (steps_of steps carry.from) carry entry) (take few (slot_carries n more slot)) new
+          zip_length (λ carry entry. IsMadeBy M past more (steps_of steps carry.from) carry entry)
+          (take few (slot_carries n more slot)) new
           (stay_new M K new n steps slot on late few carried)
 
-      whole : length (carries_through n more slot) ≡ length (carries_done n more (stage_before slot)) + length (slot_carries n more slot)
+      whole : length (carries_through n more slot)
+          ≡ length (carries_done n more (stage_before slot)) + length (slot_carries n more slot)
       whole =
           ap (λ (xs : List Carry). length xs) (through_is n more slot ∙ carries_next n more slot on)
           ∙ length-append (carries_done n more (stage_before slot)) (slot_carries n more slot)
@@ -129,16 +143,25 @@ module _ (M : MissionValue) (earlier current new : Log) (steps : Steps) (slot : 
 
   -- and the slots before do not stop the run
   unhalted : (s : Slot) → slot_index s < slot_index slot → halts n after s ≡ false
-  unhalted s early = at_log (λ x. halts n x s ≡ false) (halts_same M K new n steps slot on late s early ∙ inside.unhalted s early)
+  unhalted s early = at_log (λ x. halts n x s ≡ false)
+      (halts_same M K new n steps slot on late s early ∙ inside.unhalted s early)
 
   up_to_stop : IsUpToStop M earlier (current ++ new) n
   up_to_stop s stops = by_place (nat_le (slot_index slot) (slot_index s)) refl
     where
-      by_place : (b : Bool) → nat_le (slot_index slot) (slot_index s) ≡ b → length (current ++ new) ≤ length (carries_through n after s)
-      by_place true is = omega (arith, within_slot, later_through n after slot s (leb-true (slot_index slot) (slot_index s) is))
+      by_place : (b : Bool) → nat_le (slot_index slot) (slot_index s) ≡ b →
+          length (current ++ new) ≤ length (carries_through n after s)
+      by_place true is = omega (
+        arith,
+        within_slot,
+        later_through n after slot s (leb-true (slot_index slot) (slot_index s) is),
+      )
       by_place false is =
           let goes : halts n after s ≡ false = unhalted s (leb-false (slot_index slot) (slot_index s) is) in
           absurd cc
 
   pub run_front : IsRunFront M earlier (current ++ new) n
-  run_front = record { front = breaks_slot M earlier current new steps slot on w inside few carried; up_to_stop = up_to_stop }
+  run_front = record {
+    front = breaks_slot M earlier current new steps slot on w inside few carried;
+    up_to_stop = up_to_stop;
+  }

@@ -27,22 +27,30 @@ one_left P [] h = absurd (omega (arith, h))
 one_left P (x ∷ xs) h = by_first (P x) refl h (λ k. one_left P xs k)
   where
     by_first : (b : Bool) → P x ≡ b → length (cond b (x ∷ filter P xs) (filter P xs)) < length (x ∷ xs) →
-        (length (filter P xs) < length xs → (q : ℕ) × (has xs q ≡ true) × (P q ≡ false)) → (q : ℕ) × (has (x ∷ xs) q ≡ true) × (P q ≡ false)
+        (length (filter P xs) < length xs → (q : ℕ) × (has xs q ≡ true) × (P q ≡ false)) →
+        (q : ℕ) × (has (x ∷ xs) q ≡ true) × (P q ≡ false)
     by_first true is k more =
         let found = more (omega (arith, k)) in
         (found.0, or_true (x == found.0) (has xs found.0) found.1, found.2)
     by_first false is k more = (x, has-head x xs, is)
 
-pub one_runs : (M : MissionValue) (earlier current : Log) (steps : Steps) (slot last : Slot) (carried handed : ℕ) (w : WorldValue) → InCycle M earlier current steps last carried handed w → slot_index slot < carried →
-    (q : Channel) × (q < 7) × (mode_in (cycle_at M (earlier ++ current) w.done) q slot ≡ up) × (has (cycle_at M (earlier ++ current) w.done).active q ≡ true)
+pub one_runs : (M : MissionValue) (earlier current : Log) (steps : Steps) (slot last : Slot) (carried handed : ℕ)
+    (w : WorldValue) → InCycle M earlier current steps last carried handed w → slot_index slot < carried →
+    (q : Channel) × (q < 7) × (mode_in (cycle_at M (earlier ++ current) w.done) q slot ≡ up)
+    × (has (cycle_at M (earlier ++ current) w.done).active q ≡ true)
 one_runs M earlier current steps slot last carried handed w inside early =
     let n = w.done in
     let past = cycles_before M (earlier ++ current) n in
     let e = cycle_at M (earlier ++ current) n in
-    let few : 3 * length (disturbed_channels n e slot) < length e.active = leb-false (length e.active) (3 * length (disturbed_channels n e slot)) (inside.unhalted slot early) in
-    let found = one_left (λ q. (not (is_up (mode_in e q slot)) || is_damaged e q slot) || list_any (is_charge n slot q) e.entries) e.active (omega (arith, few)) in
+    let few : 3 * length (disturbed_channels n e slot) < length e.active =
+    leb-false (length e.active) (3 * length (disturbed_channels n e slot)) (inside.unhalted slot early) in
+    let found = one_left (λ q. (not (is_up (mode_in e q slot)) || is_damaged e q slot)
+    || list_any (is_charge n slot q) e.entries) e.active (omega (arith, few)) in
     let q = found.0 in
-    let calm = no_first (not (is_up (mode_in e q slot)) || is_damaged e q slot) (list_any (is_charge n slot q) e.entries) found.2 in
-    let is = not_false (is_up (mode_in e q slot)) (no_first (not (is_up (mode_in e q slot))) (is_damaged e q slot) calm.0).0 in
-    let set : is_set e.active ≡ true = ap is_set (active-is M (earlier ++ current) past) ∙ active_is_set M past inside.ranges in
+    let calm = no_first (not (is_up (mode_in e q slot)) || is_damaged e q slot)
+    (list_any (is_charge n slot q) e.entries) found.2 in
+    let is = not_false (is_up (mode_in e q slot))
+    (no_first (not (is_up (mode_in e q slot))) (is_damaged e q slot) calm.0).0 in
+    let set : is_set e.active ≡ true =
+    ap is_set (active-is M (earlier ++ current) past) ∙ active_is_set M past inside.ranges in
     (q, member-channel e.active q set found.1, up-is (mode_in e q slot) is, found.1)

@@ -48,9 +48,11 @@ use Rattle.world_laws.proofs.OutsideIsDown.{is_down_in}
 
 each_is_there : (xs : List ℕ) → list_all (has xs) xs ≡ true
 each_is_there [] = refl
-each_is_there (x ∷ xs) = and_true (has (x ∷ xs) x) (list_all (has (x ∷ xs)) xs) (has-head x xs) (weaken (has xs) (has (x ∷ xs)) xs (λ y h. or_true (x == y) (has xs y) h) (each_is_there xs))
+each_is_there (x ∷ xs) = and_true (has (x ∷ xs) x) (list_all (has (x ∷ xs)) xs) (has-head x xs)
+    (weaken (has xs) (has (x ∷ xs)) xs (λ y h. or_true (x == y) (has xs y) h) (each_is_there xs))
 
-filtered : {B : Type 0} (P : ℕ → Bool) (f : ℕ → Option B) (g : ℕ → B) (b : Bool) (xs : List ℕ) → list_all P xs ≡ true → ((x : ℕ) → P x ≡ true → f x ≡ cond b (Some (g x)) None) →
+filtered : {B : Type 0} (P : ℕ → Bool) (f : ℕ → Option B) (g : ℕ → B) (b : Bool) (xs : List ℕ) → list_all P xs ≡ true →
+    ((x : ℕ) → P x ≡ true → f x ≡ cond b (Some (g x)) None) →
     filter_map f xs ≡ cond b (map g xs) []
 filtered P f g true [] h is = refl
 filtered P f g false [] h is = refl
@@ -74,7 +76,8 @@ take_map f zero xs = refl
 take_map f (suc few) [] = refl
 take_map f (suc few) (x ∷ xs) = ap (λ ys. f x ∷ ys) (take_map f few xs)
 
-flat_map_map : {A B C : Type 0} (f : B → List C) (g : A → B) (P : A → Bool) (h : A → List C) (xs : List A) → list_all P xs ≡ true → ((x : A) → P x ≡ true → f (g x) ≡ h x) →
+flat_map_map : {A B C : Type 0} (f : B → List C) (g : A → B) (P : A → Bool) (h : A → List C) (xs : List A) →
+    list_all P xs ≡ true → ((x : A) → P x ≡ true → f (g x) ≡ h x) →
     flat_map f (map g xs) ≡ flat_map h xs
 flat_map_map f g P h [] all is = refl
 flat_map_map f g P h (x ∷ xs) all is =
@@ -82,34 +85,44 @@ flat_map_map f g P h (x ∷ xs) all is =
     ap (λ ys. ys ++ flat_map f (map g xs)) (is x parts.0) ∙ ap (λ ys. h x ++ ys) (flat_map_map f g P h xs parts.1 is)
 
 -- what is nothing from some number on is all told before it
-none_from : {B : Type 0} (h : ℕ → List B) (a m : ℕ) → ((q : ℕ) → a ≤ q → q < a + m → h q ≡ []) → flat_map h (range_with_len a m) ≡ []
+none_from : {B : Type 0} (h : ℕ → List B) (a m : ℕ) → ((q : ℕ) → a ≤ q → q < a + m → h q ≡ []) →
+    flat_map h (range_with_len a m) ≡ []
 none_from h a zero none = refl
 none_from h a (suc m) none =
-    ap (λ ys. ys ++ flat_map h (range_with_len (a + 1) m)) (none a (omega arith) (omega arith)) ∙ none_from h (a + 1) m (λ q low high. none q (omega (arith, low)) (omega (arith, high)))
+    ap (λ ys. ys ++ flat_map h (range_with_len (a + 1) m)) (none a (omega arith) (omega arith))
+    ∙ none_from h (a + 1) m (λ q low high. none q (omega (arith, low)) (omega (arith, high)))
 
-range_more : {B : Type 0} (h : ℕ → List B) (a n m : ℕ) → n ≤ m → ((q : ℕ) → a + n ≤ q → q < a + m → h q ≡ []) → flat_map h (range_with_len a n) ≡ flat_map h (range_with_len a m)
+range_more : {B : Type 0} (h : ℕ → List B) (a n m : ℕ) → n ≤ m → ((q : ℕ) → a + n ≤ q → q < a + m → h q ≡ []) →
+    flat_map h (range_with_len a n) ≡ flat_map h (range_with_len a m)
 range_more h a zero m few none = sym (none_from h a m (λ q low high. none q (omega (arith, low)) high))
 range_more h a (suc n) zero few none = absurd (omega (arith, few))
-range_more h a (suc n) (suc m) few none = ap (λ ys. h a ++ ys) (range_more h (a + 1) n m (omega (arith, few)) (λ q low high. none q (omega (arith, low)) (omega (arith, high))))
+range_more h a (suc n) (suc m) few none =
+    ap (λ ys. h a ++ ys) (range_more h (a + 1) n m (omega (arith, few))
+    (λ q low high. none q (omega (arith, low)) (omega (arith, high))))
 
-collected : (b : Bool) (S : ℕ → Bool) (row : ℕ → List Carry) (f : Carry → SendValue) (xs : List ℕ) → flat_map (λ q. cond (b && S q) (map f (row q)) []) xs ≡ map f (cond b (flat_map row (filter S xs)) [])
+collected : (b : Bool) (S : ℕ → Bool) (row : ℕ → List Carry) (f : Carry → SendValue) (xs : List ℕ) →
+    flat_map (λ q. cond (b && S q) (map f (row q)) []) xs ≡ map f (cond b (flat_map row (filter S xs)) [])
 collected true S row f [] = refl
 collected true S row f (x ∷ xs) = by_test (S x) (collected true S row f xs)
   where
-    by_test : (s : Bool) → flat_map (λ q. cond (true && S q) (map f (row q)) []) xs ≡ map f (flat_map row (filter S xs)) →
-        cond (true && s) (map f (row x)) [] ++ flat_map (λ q. cond (true && S q) (map f (row q)) []) xs ≡ map f (flat_map row (cond s (x ∷ filter S xs) (filter S xs)))
+    by_test : (s : Bool) → flat_map (λ q. cond (true && S q) (map f (row q)) []) xs
+        ≡ map f (flat_map row (filter S xs)) →
+        cond (true && s) (map f (row x)) [] ++ flat_map (λ q. cond (true && S q) (map f (row q)) []) xs
+        ≡ map f (flat_map row (cond s (x ∷ filter S xs) (filter S xs)))
     by_test true rest = ap (λ ys. map f (row x) ++ ys) rest ∙ map_append f (row x) (flat_map row (filter S xs))
     by_test false rest = rest
 collected false S row f [] = refl
 collected false S row f (x ∷ xs) = collected false S row f xs
 
-targeted : {B : Type 0} (c s t : Bool) (x : B) → t ≡ true → cond (c && (s && t)) (Some x) None ≡ cond (c && s) (Some x) None
+targeted : {B : Type 0} (c s t : Bool) (x : B) → t ≡ true →
+    cond (c && (s && t)) (Some x) None ≡ cond (c && s) (Some x) None
 targeted true true t x h = ap (λ b. cond b (Some x) None) h
 targeted true false t x h = refl
 targeted false s t x h = refl
 
 -- what is owed, if anything
-told : {B : Type 0} (c s t : Bool) (x y : B) → cond (c && (s && t)) (Some x) None ≡ Some y → (c ≡ true) × (s ≡ true) × (t ≡ true) × (x ≡ y)
+told : {B : Type 0} (c s t : Bool) (x y : B) → cond (c && (s && t)) (Some x) None ≡ Some y →
+    (c ≡ true) × (s ≡ true) × (t ≡ true) × (x ≡ y)
 told true true true x y h = (refl, refl, refl, cc)
 told true true false x y h = absurd cc
 told true false t x y h = absurd cc
@@ -143,32 +156,42 @@ record IsOwedTo (M : MissionValue) (past : Past) (e : Cycle) (slot : Slot) (q : 
   receives : has (receivers e slot) other ≡ true
   same : (places : List ℕ) → owed M past e slot q to places ≡ owed M past e slot q other places
 
-owed_to : (M : MissionValue) (past : Past) (e : Cycle) (slot : Slot) (q : Channel) (to : ℕ) → 1 ≤ length e.active → carries_frames e slot ≡ true → is_target e slot to ≡ true → IsOwedTo M past e slot q to
+owed_to : (M : MissionValue) (past : Past) (e : Cycle) (slot : Slot) (q : Channel) (to : ℕ) → 1 ≤ length e.active →
+    carries_frames e slot ≡ true → is_target e slot to ≡ true → IsOwedTo M past e slot q to
 owed_to M past e Sweep q to some frames target = record { other = to; receives = target; same = λ places. refl }
 owed_to M past e Final q to some frames target = record { other = to; receives = target; same = λ places. refl }
-owed_to M past e Request q to some frames target = let r = some_member e.active some in record { other = r.0; receives = r.1; same = λ places. refl }
-owed_to M past e Round1 q to some frames target = let r = some_member e.active some in record { other = r.0; receives = r.1; same = λ places. refl }
-owed_to M past e Round2 q to some frames target = let r = some_member e.active some in record { other = r.0; receives = r.1; same = λ places. refl }
-owed_to M past e Round3 q to some frames target = let r = some_member e.active some in record { other = r.0; receives = r.1; same = λ places. refl }
-owed_to M past e Vote q to some frames target = let r = some_member e.active some in record { other = r.0; receives = r.1; same = λ places. refl }
+owed_to M past e Request q to some frames target = let r = some_member e.active some in
+    record { other = r.0; receives = r.1; same = λ places. refl }
+owed_to M past e Round1 q to some frames target = let r = some_member e.active some in
+    record { other = r.0; receives = r.1; same = λ places. refl }
+owed_to M past e Round2 q to some frames target = let r = some_member e.active some in
+    record { other = r.0; receives = r.1; same = λ places. refl }
+owed_to M past e Round3 q to some frames target = let r = some_member e.active some in
+    record { other = r.0; receives = r.1; same = λ places. refl }
+owed_to M past e Vote q to some frames target = let r = some_member e.active some in
+    record { other = r.0; receives = r.1; same = λ places. refl }
 owed_to M past e Switch q to some frames target = record { other = switchboard; receives = refl; same = λ places. refl }
 owed_to M past e Tasks q to some frames target = absurd cc
 owed_to M past e Output q to some frames target = absurd cc
 
 -- ---- the entries of the cycle so far
 
-of_cycle : (M : MissionValue) (past : Past) (e : Cycle) (steps : Steps) (n : ℕ) (carries : List Carry) (entries : Log) → list_all (λ (carry : Carry). carry.cycle == n) carries ≡ true →
-    AllZip (λ carry entry. IsMadeBy M past e (steps_of steps carry.from) carry entry) carries entries → list_all (λ (y : EntryValue). y.cycle == n) entries ≡ true
+of_cycle : (M : MissionValue) (past : Past) (e : Cycle) (steps : Steps) (n : ℕ) (carries : List Carry) (entries : Log) →
+    list_all (λ (carry : Carry). carry.cycle == n) carries ≡ true →
+    AllZip (λ carry entry. IsMadeBy M past e (steps_of steps carry.from) carry entry) carries entries →
+    list_all (λ (y : EntryValue). y.cycle == n) entries ≡ true
 of_cycle M past e steps n [] [] h z = refl
 of_cycle M past e steps n [] (y ∷ entries) h z = absurd z
 of_cycle M past e steps n (x ∷ carries) [] h z = absurd z
 of_cycle M past e steps n (x ∷ carries) (y ∷ entries) h z =
     let parts = both (x.cycle == n) (list_all (λ (carry : Carry). carry.cycle == n) carries) h in
-    and_true (y.cycle == n) (list_all (λ (v : EntryValue). v.cycle == n) entries) (subst (λ c. (c == n) ≡ true) (sym z.0.cycle) parts.0) (of_cycle M past e steps n carries entries parts.1 z.1)
+    and_true (y.cycle == n) (list_all (λ (v : EntryValue). v.cycle == n) entries)
+    (subst (λ c. (c == n) ≡ true) (sym z.0.cycle) parts.0) (of_cycle M past e steps n carries entries parts.1 z.1)
 
 -- ---- the nodes
 
-all_of : (P : NodeValue → Type 0) (a : Channel → NodeValue) → ((q : Channel) → q < 7 → P (a q)) → (qs : ChannelSet) → list_all is_channel qs ≡ true → All P (map a qs)
+all_of : (P : NodeValue → Type 0) (a : Channel → NodeValue) → ((q : Channel) → q < 7 → P (a q)) → (qs : ChannelSet) →
+    list_all is_channel qs ≡ true → All P (map a qs)
 all_of P a here [] low = All-nil P
 all_of P a here (q ∷ qs) low =
     let parts = both (is_channel q) (list_all is_channel qs) low in
@@ -178,8 +201,10 @@ channels_low : (M : MissionValue) → IsMission M → list_all is_channel (chann
 channels_low M mission = (set_parts (channels_of M) (active_is_set M [] mission)).0
 
 -- each carry that passes a test is made by the entry that was sent on it
-zip_sent : (R : Carry → EntryValue → Type 0) (f : Carry → SendValue) (P : Carry → Bool) (xs : List Carry) (ys : Log) → list_all P xs ≡ true →
-    ((x : Carry) (y : EntryValue) → P x ≡ true → IsEntryOf (f x) y → R x y) → AllZip IsEntryOf (map f xs) ys → AllZip R xs ys
+zip_sent : (R : Carry → EntryValue → Type 0) (f : Carry → SendValue) (P : Carry → Bool) (xs : List Carry) (ys : Log) →
+    list_all P xs ≡ true →
+    ((x : Carry) (y : EntryValue) → P x ≡ true → IsEntryOf (f x) y → R x y) → AllZip IsEntryOf (map f xs) ys →
+    AllZip R xs ys
 zip_sent R f P [] [] h is z = tt
 zip_sent R f P [] (y ∷ ys) h is z = absurd z
 zip_sent R f P (x ∷ xs) [] h is z = absurd z
@@ -187,7 +212,8 @@ zip_sent R f P (x ∷ xs) (y ∷ ys) h is z =
     let parts = both (P x) (list_all P xs) h in
     (is x y parts.0 z.0, zip_sent R f P xs ys parts.1 is z.1)
 
-module _ (M : MissionValue) (earlier current : Log) (steps : Steps) (slot : Slot) (w : WorldValue) (inside : InCycle M earlier current steps slot (stage_before slot) (stage_before slot) w) where
+module _ (M : MissionValue) (earlier current : Log) (steps : Steps) (slot : Slot) (w : WorldValue)
+    (inside : InCycle M earlier current steps slot (stage_before slot) (stage_before slot) w) where
   abbrev n : ℕ
   n = w.done
 
@@ -215,22 +241,32 @@ module _ (M : MissionValue) (earlier current : Log) (steps : Steps) (slot : Slot
         before = earlier;
         later = current;
         entries = refl;
-        after = from_now n current (of_cycle M past e steps n (carries_done n e (stage_before slot)) current (all-flat_map (λ (carry : Carry). carry.cycle == n) (slot_carries n e) (take (slot_index slot) every_slot) (carries_of n e)) inside.made);
+        after = from_now n current
+            (of_cycle M past e steps n (carries_done n e (stage_before slot)) current
+            (all-flat_map (λ (carry : Carry). carry.cycle == n) (slot_carries n e) (take (slot_index slot) every_slot)
+            (carries_of n e)) inside.made);
         due = inside.before;
         unstopped = inside.unstopped;
       }
 
-  owes_due : (q : Channel) (to : ℕ) → q < 7 → body_of M (received q) slot to (node q).state ≡ body_due M past e steps slot q to
-  owes_due q to low = owes M past e steps q (λ s is. active_in M K n inside.ranges q low s is) (run_owns M K n inside.ranges (omega (arith, inside.below)) run q) slot to
+  owes_due : (q : Channel) (to : ℕ) → q < 7 →
+      body_of M (received q) slot to (node q).state ≡ body_due M past e steps slot q to
+  owes_due q to low = owes M past e steps q (λ s is. active_in M K n inside.ranges q low s is)
+      (run_owns M K n inside.ranges (omega (arith, inside.below)) run q) slot to
 
   all_stand : All (StandsForReceived received) w.nodes
   all_stand = subst (λ (nodes : List NodeValue). All (StandsForReceived received) nodes) (sym inside.nodes)
-      (all_of (StandsForReceived received) node (λ q low. record { stands = stands M past e steps slot (slot_index slot) q }) (channels_of M) (channels_low M inside.ranges))
+      (all_of (StandsForReceived received) node
+      (λ q low. record { stands = stands M past e steps slot (slot_index slot) q }) (channels_of M)
+      (channels_low M inside.ranges))
 
   -- ---- what is sent
 
   abbrev due_send : Carry → SendValue
-  due_send carry = record { carry = carry; bytes = due_bytes M past e carry (writes_before (steps_of steps carry.from)) }
+  due_send carry = record {
+    carry = carry;
+    bytes = due_bytes M past e carry (writes_before (steps_of steps carry.from));
+  }
 
   abbrev row : Channel → List Carry
   row q = map (λ to. record { cycle = n; slot = slot; from = q; to = to }) (without (receivers e slot) (q ∷ []))
@@ -242,14 +278,19 @@ module _ (M : MissionValue) (earlier current : Log) (steps : Steps) (slot : Slot
   node_sends q low =
       let others : List ℕ = without (receivers e slot) (q ∷ []) in
       let sends : ℕ → SendValue = λ to. due_send (record { cycle = n; slot = slot; from = q; to = to }) in
-      filtered (is_target e slot) (send_to M n slot (received q) (node q)) sends (carries_frames e slot && is_sender e slot q) others
+      filtered (is_target e slot) (send_to M n slot (received q) (node q)) sends
+      (carries_frames e slot && is_sender e slot q) others
       (all-filter (is_target e slot) (λ x. not (has (q ∷ []) x)) (receivers e slot) (all_targets e slot))
       (λ to target. ap (option_map (send_by n slot (node q) to))
-      (owes_due q to low ∙ targeted (carries_frames e slot) (is_sender e slot q) (is_target e slot to) (owed M past e slot q to (writes_before (steps_of steps q))) target)
-      ∙ sent_if (carries_frames e slot && is_sender e slot q) (send_by n slot (node q) to) (owed M past e slot q to (writes_before (steps_of steps q))))
-      ∙ ap (λ xs. cond (carries_frames e slot && is_sender e slot q) xs []) (map_map due_send (λ to. record { cycle = n; slot = slot; from = q; to = to }) others)
+      (owes_due q to low ∙ targeted (carries_frames e slot) (is_sender e slot q) (is_target e slot to)
+      (owed M past e slot q to (writes_before (steps_of steps q))) target)
+      ∙ sent_if (carries_frames e slot && is_sender e slot q) (send_by n slot (node q) to)
+      (owed M past e slot q to (writes_before (steps_of steps q))))
+      ∙ ap (λ xs. cond (carries_frames e slot && is_sender e slot q) xs [])
+      (map_map due_send (λ to. record { cycle = n; slot = slot; from = q; to = to }) others)
     where
-      sent_if : (b : Bool) (f : BodyValue → SendValue) (x : BodyValue) → option_map f (cond b (Some x) None) ≡ cond b (Some (f x)) None
+      sent_if : (b : Bool) (f : BodyValue → SendValue) (x : BodyValue) →
+          option_map f (cond b (Some x) None) ≡ cond b (Some (f x)) None
       sent_if true f x = refl
       sent_if false f x = refl
 
@@ -261,7 +302,12 @@ module _ (M : MissionValue) (earlier current : Log) (steps : Steps) (slot : Slot
       outside = clear (nat_lt q M.rules.channels) (λ h. absurd (omega (arith, ltb-true q M.rules.channels h, far)))
 
       passive : has e.active q ≡ false
-      passive = clear (has e.active q) (λ there. absurd (omega (arith, active_within M K n q (sym (ap (λ (s : ChannelSet). has s q) (active-is M K past)) ∙ there), far)))
+      passive = clear (has e.active q)
+          (λ there. absurd (omega (
+            arith,
+            active_within M K n q (sym (ap (λ (s : ChannelSet). has s q) (active-is M K past)) ∙ there),
+            far,
+          )))
 
       not_running : (s : Slot) → (has e.active q && is_up (mode_in e q s)) ≡ false
       not_running s = ap (λ b. b && is_up (mode_in e q s)) passive
@@ -279,7 +325,8 @@ module _ (M : MissionValue) (earlier current : Log) (steps : Steps) (slot : Slot
       in_slot Output = refl
 
   none_outside : (q : Channel) → M.rules.channels ≤ q → q < 7 → due_row q ≡ []
-  none_outside q far low = ap (λ s. cond (carries_frames e slot && s) (map due_send (row q)) []) (no_sender q far low) ∙ nothing (carries_frames e slot)
+  none_outside q far low = ap (λ s. cond (carries_frames e slot && s) (map due_send (row q)) []) (no_sender q far low)
+      ∙ nothing (carries_frames e slot)
     where
       nothing : (b : Bool) → cond (b && false) (map due_send (row q)) [] ≡ []
       nothing true = refl
@@ -289,26 +336,34 @@ module _ (M : MissionValue) (earlier current : Log) (steps : Steps) (slot : Slot
   unfolding channels_where
   sends_are =
       ap (λ (nodes : List NodeValue). all_sends M n slot (receivers e slot) received nodes) inside.nodes
-      ∙ flat_map_map (λ (x : NodeValue). sends_of M n slot (receivers e slot) (received x.channel) x) node is_channel due_row (channels_of M) (channels_low M inside.ranges)
+      ∙ flat_map_map (λ (x : NodeValue). sends_of M n slot (receivers e slot) (received x.channel) x) node is_channel
+      due_row (channels_of M) (channels_low M inside.ranges)
       (λ q low. node_sends q (leb-true (suc q) 7 low))
-      ∙ range_more due_row 0 M.rules.channels 7 few (λ q far low. none_outside q (omega (arith, far)) (omega (arith, low)))
+      ∙ range_more due_row 0 M.rules.channels 7 few
+      (λ q far low. none_outside q (omega (arith, far)) (omega (arith, low)))
       ∙ collected (carries_frames e slot) (is_sender e slot) row due_send every_channel
 
   module _ (full : slot ≡ Sweep → AreFull M past e steps) where
     -- who sends in the sweep slot has worked
-    sender_full : (q : Channel) → q < 7 → is_sender e slot q ≡ true → slot ≡ Sweep → IsFull (due_origin M past e q) (steps_of steps q)
+    sender_full : (q : Channel) → q < 7 → is_sender e slot q ≡ true → slot ≡ Sweep →
+        IsFull (due_origin M past e q) (steps_of steps q)
     sender_full q low sends is =
-        let runs = both (has e.active q) (is_up (mode_in e q Sweep)) (subst (λ (s : Slot). is_sender e s q ≡ true) is sends) in
+        let runs = both (has e.active q) (is_up (mode_in e q Sweep))
+        (subst (λ (s : Slot). is_sender e s q ≡ true) is sends) in
         let worked : is_up (mode_in e q Tasks) ≡ true = up_in_slot M K past q Tasks Sweep low refl runs.1 in
-        full is q (has-filter (λ p. is_up (mode_in e p Tasks)) e.active q ∙ and_true (is_up (mode_in e q Tasks)) (has e.active q) worked runs.0)
+        full is q (has-filter (λ p. is_up (mode_in e p Tasks)) e.active q
+        ∙ and_true (is_up (mode_in e q Tasks)) (has e.active q) worked runs.0)
 
     -- ---- spellings
 
-    frame_fits : (q : Channel) (to : ℕ) → q < 7 → carries_frames e slot ≡ true → is_sender e slot q ≡ true → is_target e slot to ≡ true →
+    frame_fits : (q : Channel) (to : ℕ) → q < 7 → carries_frames e slot ≡ true → is_sender e slot q ≡ true →
+        is_target e slot to ≡ true →
         in_range (frame_by n (node q) (owed M past e slot q to (writes_before (steps_of steps q)))) ≡ true
     frame_fits q to low frames sends target =
         let places : List ℕ = writes_before (steps_of steps q) in
-        let some : 1 ≤ length e.active = subst (λ (s : ChannelSet). 1 ≤ length s) (sym (active-is M K past)) (omega (arith, three_active M K inside.ranges n)) in
+        let some : 1 ≤ length e.active =
+        subst (λ (s : ChannelSet). 1 ≤ length s) (sym (active-is M K past))
+        (omega (arith, three_active M K inside.ranges n)) in
         let same = owed_to M past e slot q to some frames target in
         let counts : Counts M past e slot q same.other places =
         due_frames_count M K n slot q same.other places inside.ranges inside.below
@@ -319,16 +374,21 @@ module _ (M : MissionValue) (earlier current : Log) (steps : Steps) (slot : Slot
           receives = same.receives;
           in_order = λ is. places_of_full (due_origin M past e q) (steps_of steps q) (sender_full q low sends is);
         }) in
-        subst (λ c. in_range (frame_on M (record { cycle = c; slot = slot; from = q; to = to }) (owed M past e slot q to places)) ≡ true) (length-cycles_before M K n)
-        (subst (λ (b : BodyValue). in_range (frame_on M (record { cycle = length past; slot = slot; from = q; to = to }) b) ≡ true) (sym (same.same places)) counts.spelled)
+        subst (λ c. in_range (frame_on M (record { cycle = c; slot = slot; from = q; to = to })
+        (owed M past e slot q to places)) ≡ true) (length-cycles_before M K n)
+        (subst (λ (b : BodyValue).
+        in_range (frame_on M (record { cycle = length past; slot = slot; from = q; to = to }) b) ≡ true)
+        (sym (same.same places)) counts.spelled)
 
     may_send : (q : Channel) → q < 7 → MaySend M n slot received (node q)
     may_send q low =
         record {
           rules = refl;
           fits = λ to body is.
-              let owes_it = told (carries_frames e slot) (is_sender e slot q) (is_target e slot to) (owed M past e slot q to (writes_before (steps_of steps q))) body (sym (owes_due q to low) ∙ is) in
-              subst (λ (b : BodyValue). in_range (frame_by n (node q) b) ≡ true) owes_it.3 (frame_fits q to low owes_it.0 owes_it.1 owes_it.2);
+              let owes_it = told (carries_frames e slot) (is_sender e slot q) (is_target e slot to)
+              (owed M past e slot q to (writes_before (steps_of steps q))) body (sym (owes_due q to low) ∙ is) in
+              subst (λ (b : BodyValue). in_range (frame_by n (node q) b) ≡ true) owes_it.3
+              (frame_fits q to low owes_it.0 owes_it.1 owes_it.2);
         }
 
     all_may_send : All (MaySend M n slot received) w.nodes
@@ -349,27 +409,35 @@ module _ (M : MissionValue) (earlier current : Log) (steps : Steps) (slot : Slot
         let parts = both (is_channel x) (list_all is_channel xs) h in
         by_test (is_sender e slot x) refl parts.0 (senders xs parts.1)
       where
-        by_test : (b : Bool) → is_sender e slot x ≡ b → is_channel x ≡ true → list_all is_sending (filter (is_sender e slot) xs) ≡ true →
+        by_test : (b : Bool) → is_sender e slot x ≡ b → is_channel x ≡ true →
+            list_all is_sending (filter (is_sender e slot) xs) ≡ true →
             list_all is_sending (cond b (x ∷ filter (is_sender e slot) xs) (filter (is_sender e slot) xs)) ≡ true
-        by_test true is low rest = and_true (is_sending x) (list_all is_sending (filter (is_sender e slot) xs)) (and_true (is_channel x) (is_sender e slot x) low is) rest
+        by_test true is low rest =
+            and_true (is_sending x) (list_all is_sending (filter (is_sender e slot) xs))
+            (and_true (is_channel x) (is_sender e slot x) low is) rest
         by_test false is low rest = rest
 
     carries_here : list_all is_here (slot_carries n e slot) ≡ true
     unfolding channels_where
     carries_here = by_frames (carries_frames e slot)
       where
-        by_frames : (b : Bool) → list_all is_here (cond b (flat_map row (filter (is_sender e slot) every_channel)) []) ≡ true
+        by_frames : (b : Bool) → list_all is_here (cond b (flat_map row (filter (is_sender e slot) every_channel)) [])
+            ≡ true
         by_frames true =
             all_of_flat is_here is_sending row (filter (is_sender e slot) every_channel) (senders every_channel refl)
-            (λ q sends. all-map is_here (λ to. record { cycle = n; slot = slot; from = q; to = to }) (without (receivers e slot) (q ∷ []))
-            (λ to. and_true (same_slot slot slot) (is_sending q) (eq-eqb (slot_index slot) (slot_index slot) refl) sends))
+            (λ q sends. all-map is_here (λ to. record { cycle = n; slot = slot; from = q; to = to })
+            (without (receivers e slot) (q ∷ []))
+            (λ to. and_true (same_slot slot slot) (is_sending q) (eq-eqb (slot_index slot) (slot_index slot) refl)
+            sends))
         by_frames false = refl
 
-    made : (carry : Carry) (entry : EntryValue) → is_here carry ≡ true → IsEntryOf (due_send carry) entry → IsMadeBy M past e (steps_of steps carry.from) carry entry
+    made : (carry : Carry) (entry : EntryValue) → is_here carry ≡ true → IsEntryOf (due_send carry) entry →
+        IsMadeBy M past e (steps_of steps carry.from) carry entry
     made carry entry here sent =
         let parts = both (same_slot carry.slot slot) (is_sending carry.from) here in
         let sends = both (is_channel carry.from) (is_sender e slot carry.from) parts.1 in
-        let same : carry.slot ≡ slot = one_place carry.slot slot (eqb-true (slot_index carry.slot) (slot_index slot) parts.0) in
+        let same : carry.slot ≡ slot =
+        one_place carry.slot slot (eqb-true (slot_index carry.slot) (slot_index slot) parts.0) in
         record {
           cycle = sent.cycle_is;
           slot = sent.slot_is;
@@ -379,42 +447,73 @@ module _ (M : MissionValue) (earlier current : Log) (steps : Steps) (slot : Slot
           sent = sent.sent_is;
         }
 
-    few_made : (number : ℕ) (new : Log) → AllZip IsEntryOf (take number (all_sends M n slot (receivers e slot) received w.nodes)) new →
-        AllZip (λ carry entry. IsMadeBy M past e (steps_of steps carry.from) carry entry) (take number (slot_carries n e slot)) new
+    few_made : (number : ℕ) (new : Log) →
+        AllZip IsEntryOf (take number (all_sends M n slot (receivers e slot) received w.nodes)) new →
+        AllZip (λ carry entry. IsMadeBy M past e (steps_of steps carry.from) carry entry)
+        (take number (slot_carries n e slot)) new
     few_made number new sent =
-        zip_sent (λ carry entry. IsMadeBy M past e (steps_of steps carry.from) carry entry) due_send is_here (take number (slot_carries n e slot)) new
+        zip_sent (λ carry entry. IsMadeBy M past e (steps_of steps carry.from) carry entry) due_send is_here
+        (take number (slot_carries n e slot)) new
         (all-take is_here number (slot_carries n e slot) carries_here) made
-        (subst (λ sends. AllZip IsEntryOf sends new) (ap (take number) sends_are ∙ take_map due_send number (slot_carries n e slot)) sent)
+        (subst (λ sends. AllZip IsEntryOf sends new)
+        (ap (take number) sends_are ∙ take_map due_send number (slot_carries n e slot)) sent)
 
     all_made : (new : Log) → AllZip IsEntryOf (all_sends M n slot (receivers e slot) received w.nodes) new →
         AllZip (λ carry entry. IsMadeBy M past e (steps_of steps carry.from) carry entry) (slot_carries n e slot) new
     all_made new sent =
-        zip_sent (λ carry entry. IsMadeBy M past e (steps_of steps carry.from) carry entry) due_send is_here (slot_carries n e slot) new carries_here made
+        zip_sent (λ carry entry. IsMadeBy M past e (steps_of steps carry.from) carry entry) due_send is_here
+        (slot_carries n e slot) new carries_here made
         (subst (λ sends. AllZip IsEntryOf sends new) sends_are sent)
 
 -- ---- as the law has them
 
-pub nodes_stand : (M : MissionValue) (earlier current : Log) (steps : Steps) (slot : Slot) (w : WorldValue) → InCycle M earlier current steps slot (stage_before slot) (stage_before slot) w →
-    All (StandsForReceived (λ q. received_through M (cycles_before M (earlier ++ current) w.done) (cycle_at M (earlier ++ current) w.done) (stage_before slot) q)) w.nodes
+pub nodes_stand : (M : MissionValue) (earlier current : Log) (steps : Steps) (slot : Slot) (w : WorldValue) →
+    InCycle M earlier current steps slot (stage_before slot) (stage_before slot) w →
+    All (StandsForReceived (λ q.
+    received_through M (cycles_before M (earlier ++ current) w.done) (cycle_at M (earlier ++ current) w.done)
+    (stage_before slot) q)) w.nodes
 nodes_stand M earlier current steps slot w inside = all_stand M earlier current steps slot w inside
 
-pub nodes_may_send : (M : MissionValue) (earlier current : Log) (steps : Steps) (slot : Slot) (w : WorldValue) → InCycle M earlier current steps slot (stage_before slot) (stage_before slot) w →
-    (slot ≡ Sweep → AreFull M (cycles_before M (earlier ++ current) w.done) (cycle_at M (earlier ++ current) w.done) steps) →
-    All (MaySend M w.done slot (λ q. received_through M (cycles_before M (earlier ++ current) w.done) (cycle_at M (earlier ++ current) w.done) (stage_before slot) q)) w.nodes
+pub nodes_may_send : (M : MissionValue) (earlier current : Log) (steps : Steps) (slot : Slot) (w : WorldValue) →
+    InCycle M earlier current steps slot (stage_before slot) (stage_before slot) w →
+    (slot ≡ Sweep → AreFull M (cycles_before M (earlier ++ current) w.done) (cycle_at M (earlier ++ current) w.done)
+    steps) →
+    All (MaySend M w.done slot
+    (λ q. received_through M (cycles_before M (earlier ++ current) w.done) (cycle_at M (earlier ++ current) w.done)
+    (stage_before slot) q)) w.nodes
 nodes_may_send M earlier current steps slot w inside full = all_may_send M earlier current steps slot w inside full
 
-pub sent_whole : (M : MissionValue) (earlier current new : Log) (steps : Steps) (slot : Slot) (to : List ℕ) (w : WorldValue) → InCycle M earlier current steps slot (stage_before slot) (stage_before slot) w →
-    (slot ≡ Sweep → AreFull M (cycles_before M (earlier ++ current) w.done) (cycle_at M (earlier ++ current) w.done) steps) → receivers (cycle_at M (earlier ++ current) w.done) slot ≡ to →
-    AllZip IsEntryOf (all_sends M w.done slot to (λ q. received_through M (cycles_before M (earlier ++ current) w.done) (cycle_at M (earlier ++ current) w.done) (stage_before slot) q) w.nodes) new →
-    AllZip (λ carry entry. IsMadeBy M (cycles_before M (earlier ++ current) w.done) (cycle_at M (earlier ++ current) w.done) (steps_of steps carry.from) carry entry) (slot_carries w.done (cycle_at M (earlier ++ current) w.done) slot) new
+pub sent_whole : (M : MissionValue) (earlier current new : Log) (steps : Steps) (slot : Slot) (to : List ℕ)
+    (w : WorldValue) → InCycle M earlier current steps slot (stage_before slot) (stage_before slot) w →
+    (slot ≡ Sweep → AreFull M (cycles_before M (earlier ++ current) w.done) (cycle_at M (earlier ++ current) w.done)
+    steps) → receivers (cycle_at M (earlier ++ current) w.done) slot ≡ to →
+    AllZip IsEntryOf (all_sends M w.done slot to
+    (λ q. received_through M (cycles_before M (earlier ++ current) w.done) (cycle_at M (earlier ++ current) w.done)
+    (stage_before slot) q) w.nodes) new →
+    AllZip (λ carry entry. IsMadeBy M (cycles_before M (earlier ++ current) w.done)
+    (cycle_at M (earlier ++ current) w.done) (steps_of steps carry.from) carry entry)
+    (slot_carries w.done (cycle_at M (earlier ++ current) w.done) slot) new
 sent_whole M earlier current new steps slot to w inside full same sent =
     all_made M earlier current steps slot w inside full new
-    (subst (λ xs. AllZip IsEntryOf (all_sends M w.done slot xs (λ q. received_through M (cycles_before M (earlier ++ current) w.done) (cycle_at M (earlier ++ current) w.done) (stage_before slot) q) w.nodes) new) (sym same) sent)
+    (subst (λ xs. AllZip IsEntryOf
+    (all_sends M w.done slot xs
+    (λ q. received_through M (cycles_before M (earlier ++ current) w.done) (cycle_at M (earlier ++ current) w.done)
+    (stage_before slot) q) w.nodes) new) (sym same) sent)
 
-pub sent_few : (M : MissionValue) (earlier current new : Log) (steps : Steps) (slot : Slot) (to : List ℕ) (number : ℕ) (w : WorldValue) → InCycle M earlier current steps slot (stage_before slot) (stage_before slot) w →
-    (slot ≡ Sweep → AreFull M (cycles_before M (earlier ++ current) w.done) (cycle_at M (earlier ++ current) w.done) steps) → receivers (cycle_at M (earlier ++ current) w.done) slot ≡ to →
-    AllZip IsEntryOf (take number (all_sends M w.done slot to (λ q. received_through M (cycles_before M (earlier ++ current) w.done) (cycle_at M (earlier ++ current) w.done) (stage_before slot) q) w.nodes)) new →
-    AllZip (λ carry entry. IsMadeBy M (cycles_before M (earlier ++ current) w.done) (cycle_at M (earlier ++ current) w.done) (steps_of steps carry.from) carry entry) (take number (slot_carries w.done (cycle_at M (earlier ++ current) w.done) slot)) new
+pub sent_few : (M : MissionValue) (earlier current new : Log) (steps : Steps) (slot : Slot) (to : List ℕ) (number : ℕ)
+    (w : WorldValue) → InCycle M earlier current steps slot (stage_before slot) (stage_before slot) w →
+    (slot ≡ Sweep → AreFull M (cycles_before M (earlier ++ current) w.done) (cycle_at M (earlier ++ current) w.done)
+    steps) → receivers (cycle_at M (earlier ++ current) w.done) slot ≡ to →
+    AllZip IsEntryOf (take number
+    (all_sends M w.done slot to
+    (λ q. received_through M (cycles_before M (earlier ++ current) w.done) (cycle_at M (earlier ++ current) w.done)
+    (stage_before slot) q) w.nodes)) new →
+    AllZip (λ carry entry. IsMadeBy M (cycles_before M (earlier ++ current) w.done)
+    (cycle_at M (earlier ++ current) w.done) (steps_of steps carry.from) carry entry)
+    (take number (slot_carries w.done (cycle_at M (earlier ++ current) w.done) slot)) new
 sent_few M earlier current new steps slot to number w inside full same sent =
     few_made M earlier current steps slot w inside full number new
-    (subst (λ xs. AllZip IsEntryOf (take number (all_sends M w.done slot xs (λ q. received_through M (cycles_before M (earlier ++ current) w.done) (cycle_at M (earlier ++ current) w.done) (stage_before slot) q) w.nodes)) new) (sym same) sent)
+    (subst (λ xs. AllZip IsEntryOf
+    (take number (all_sends M w.done slot xs
+    (λ q. received_through M (cycles_before M (earlier ++ current) w.done) (cycle_at M (earlier ++ current) w.done)
+    (stage_before slot) q) w.nodes)) new) (sym same) sent)

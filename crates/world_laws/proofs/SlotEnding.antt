@@ -42,7 +42,8 @@ entries_of-all c (x ∷ xs) h =
     let parts = both (x.cycle == c) (list_all (λ (z : EntryValue). z.cycle == c) xs) h in
     ap (λ b. cond b (x ∷ entries_of c xs) (entries_of c xs)) parts.0 ∙ ap (λ ys. x ∷ ys) (entries_of-all c xs parts.1)
 
-entries_of-earlier : (n : ℕ) (xs : Log) → list_all (λ (x : EntryValue). nat_lt x.cycle n) xs ≡ true → entries_of n xs ≡ []
+entries_of-earlier : (n : ℕ) (xs : Log) → list_all (λ (x : EntryValue). nat_lt x.cycle n) xs ≡ true →
+    entries_of n xs ≡ []
 entries_of-earlier n [] h = refl
 entries_of-earlier n (x ∷ xs) h =
     let parts = both (nat_lt x.cycle n) (list_all (λ (z : EntryValue). nat_lt z.cycle n) xs) h in
@@ -50,25 +51,32 @@ entries_of-earlier n (x ∷ xs) h =
     ap (λ b. cond b (x ∷ entries_of n xs) (entries_of n xs)) other ∙ entries_of-earlier n xs parts.1
 
 -- the entries that are due for some cycles are of cycles before
-due_earlier : (M : MissionValue) (P : Past) (entries : Log) → AreDue M P entries → list_all (λ (x : EntryValue). nat_lt x.cycle (length P)) entries ≡ true
+due_earlier : (M : MissionValue) (P : Past) (entries : Log) → AreDue M P entries →
+    list_all (λ (x : EntryValue). nat_lt x.cycle (length P)) entries ≡ true
 due_earlier M [] entries due = ap (list_all (λ (x : EntryValue). nat_lt x.cycle 0)) due
 due_earlier M (e ∷ past) entries due =
     let n = length past in
-    let first = weaken (λ (x : EntryValue). nat_lt x.cycle n) (λ (x : EntryValue). nat_lt x.cycle (suc n)) due.0 (λ x h. le-leb (suc x.cycle) (suc n) (omega (arith, leb-true (suc x.cycle) n h))) (due_earlier M past due.0 due.3) in
-    let last = weaken (λ (x : EntryValue). x.cycle == n) (λ (x : EntryValue). nat_lt x.cycle (suc n)) due.1 (λ x h. le-leb (suc x.cycle) (suc n) (omega (arith, eqb-true x.cycle n h)))
+    let first = weaken (λ (x : EntryValue). nat_lt x.cycle n) (λ (x : EntryValue). nat_lt x.cycle (suc n)) due.0
+    (λ x h. le-leb (suc x.cycle) (suc n) (omega (arith, leb-true (suc x.cycle) n h)))
+    (due_earlier M past due.0 due.3) in
+    let last = weaken (λ (x : EntryValue). x.cycle == n) (λ (x : EntryValue). nat_lt x.cycle (suc n)) due.1
+    (λ x h. le-leb (suc x.cycle) (suc n) (omega (arith, eqb-true x.cycle n h)))
     (entries_cycle M past e n (cycle_carries n e) due.1 due.4 (all_of_cycle n e)) in
-    ap (list_all (λ (x : EntryValue). nat_lt x.cycle (suc n))) due.2 ∙ all-append (λ (x : EntryValue). nat_lt x.cycle (suc n)) due.0 due.1 first last
+    ap (list_all (λ (x : EntryValue). nat_lt x.cycle (suc n))) due.2
+    ∙ all-append (λ (x : EntryValue). nat_lt x.cycle (suc n)) due.0 due.1 first last
 
 -- ---- the slots of entries
 
-slots_of : (M : MissionValue) (L : Log) (n : ℕ) (steps : Steps) (P : Slot → Bool) (carries : List Carry) (entries : Log) → list_all (λ (carry : Carry). P carry.slot) carries ≡ true →
+slots_of : (M : MissionValue) (L : Log) (n : ℕ) (steps : Steps) (P : Slot → Bool) (carries : List Carry)
+    (entries : Log) → list_all (λ (carry : Carry). P carry.slot) carries ≡ true →
     AllZip (Made M L n steps) carries entries → list_all (λ (y : EntryValue). P y.slot) entries ≡ true
 slots_of M L n steps P [] [] h z = refl
 slots_of M L n steps P [] (y ∷ entries) h z = absurd z
 slots_of M L n steps P (x ∷ carries) [] h z = absurd z
 slots_of M L n steps P (x ∷ carries) (y ∷ entries) h z =
     let parts = both (P x.slot) (list_all (λ (carry : Carry). P carry.slot) carries) h in
-    and_true (P y.slot) (list_all (λ (v : EntryValue). P v.slot) entries) (subst (λ s. P s ≡ true) (sym z.0.slot) parts.0) (slots_of M L n steps P carries entries parts.1 z.1)
+    and_true (P y.slot) (list_all (λ (v : EntryValue). P v.slot) entries)
+    (subst (λ s. P s ≡ true) (sym z.0.slot) parts.0) (slots_of M L n steps P carries entries parts.1 z.1)
 
 place_low : (slot : Slot) → on_bus slot ≡ true → slot_index slot ≤ 8
 place_low Request on = omega arith
@@ -83,13 +91,17 @@ place_low Switch on = omega arith
 place_low Output on = absurd cc
 
 -- who is charged for entries of slots up to this one is charged for them in the cycle
-same_charge : (n : ℕ) (slot : Slot) (q : Channel) (entries : Log) → slot_index slot ≤ 8 → list_all (λ (y : EntryValue). nat_le (slot_index y.slot) (slot_index slot)) entries ≡ true →
+same_charge : (n : ℕ) (slot : Slot) (q : Channel) (entries : Log) → slot_index slot ≤ 8 →
+    list_all (λ (y : EntryValue). nat_le (slot_index y.slot) (slot_index slot)) entries ≡ true →
     list_any (is_charge n slot q) entries ≡ list_any (is_charge n Switch q) entries
 same_charge n slot q [] low h = refl
 same_charge n slot q (y ∷ entries) low h =
-    let parts = both (nat_le (slot_index y.slot) (slot_index slot)) (list_all (λ (v : EntryValue). nat_le (slot_index v.slot) (slot_index slot)) entries) h in
-    let by_end : up_to y.slot Switch ≡ true = le-leb (slot_index y.slot) 8 (omega (arith, leb-true (slot_index y.slot) (slot_index slot) parts.0, low)) in
-    ap (λ b. (((y.cycle == n && b) && y.from == q) && differs_from y.sent y.delivered) || list_any (is_charge n slot q) entries) (parts.0 ∙ sym by_end)
+    let parts = both (nat_le (slot_index y.slot) (slot_index slot))
+    (list_all (λ (v : EntryValue). nat_le (slot_index v.slot) (slot_index slot)) entries) h in
+    let by_end : up_to y.slot Switch ≡ true =
+    le-leb (slot_index y.slot) 8 (omega (arith, leb-true (slot_index y.slot) (slot_index slot) parts.0, low)) in
+    ap (λ b. (((y.cycle == n && b) && y.from == q) && differs_from y.sent y.delivered)
+    || list_any (is_charge n slot q) entries) (parts.0 ∙ sym by_end)
     ∙ ap (λ b. is_charge n Switch q y || b) (same_charge n slot q entries low parts.1)
 
 -- ---- the ledger of a slot
@@ -99,12 +111,15 @@ ledger_of M slot o =
     record {
       return_after = M.return_after;
       modes = by_channel (λ q. place_or (place_or o.modes (slot_index slot) []) q down);
-      damaged = channels_where (λ q. has o.damaged q && is_up (place_or (place_or o.modes (slot_index slot) []) q down));
+      damaged = channels_where (λ q. has o.damaged q
+          && is_up (place_or (place_or o.modes (slot_index slot) []) q down));
     }
 
-module _ (M : MissionValue) (earlier current new : Log) (steps : Steps) (slot : Slot) (w : WorldValue) (on : on_bus slot ≡ true)
+module _ (M : MissionValue) (earlier current new : Log) (steps : Steps) (slot : Slot) (w : WorldValue)
+    (on : on_bus slot ≡ true)
     (inside : InCycle M earlier current steps slot (stage_before slot) (stage_before slot) w)
-    (carried : AreDueCarries M (earlier ++ current) w.done steps (slot_carries w.done (cycle_at M (earlier ++ current) w.done) slot) new) where
+    (carried : AreDueCarries M (earlier ++ current) w.done steps
+    (slot_carries w.done (cycle_at M (earlier ++ current) w.done) slot) new) where
   abbrev n : ℕ
   n = w.done
 
@@ -124,15 +139,19 @@ module _ (M : MissionValue) (earlier current new : Log) (steps : Steps) (slot : 
   late = placed M (cycles_before M K n) e steps n slot (slot_carries n e slot) new (placed_carries n e slot) carried
 
   opening_same : x.opening ≡ e.opening
-  opening_same = subst (λ (X : Log). (cycle_at M X n).opening ≡ e.opening) (append_assoc earlier current new) (opening_later M K new n (slot_index slot) late)
+  opening_same = subst (λ (X : Log). (cycle_at M X n).opening ≡ e.opening) (append_assoc earlier current new)
+      (opening_later M K new n (slot_index slot) late)
 
   past_same : cycles_before M longer n ≡ cycles_before M K n
-  past_same = subst (λ (X : Log). cycles_before M X n ≡ cycles_before M K n) (append_assoc earlier current new) (cycles_before-append M K new n (from_cycle n (slot_index slot) new late))
+  past_same = subst (λ (X : Log). cycles_before M X n ≡ cycles_before M K n) (append_assoc earlier current new)
+      (cycles_before-append M K new n (from_cycle n (slot_index slot) new late))
 
   these : list_all (λ (y : EntryValue). y.cycle == n) (current ++ new) ≡ true
   these =
       all-append (λ (y : EntryValue). y.cycle == n) current new
-      (of_cycle M K n steps (carries_done n e (stage_before slot)) current (all-flat_map (λ (carry : Carry). carry.cycle == n) (slot_carries n e) (take (slot_index slot) every_slot) (carries_of n e)) inside.made)
+      (of_cycle M K n steps (carries_done n e (stage_before slot)) current
+      (all-flat_map (λ (carry : Carry). carry.cycle == n) (slot_carries n e) (take (slot_index slot) every_slot)
+      (carries_of n e)) inside.made)
       (of_cycle M K n steps (slot_carries n e slot) new (carries_of n e slot) carried)
 
   entries_are : x.entries ≡ current ++ new
@@ -141,7 +160,8 @@ module _ (M : MissionValue) (earlier current new : Log) (steps : Steps) (slot : 
       let before : AreDue M P earlier = subst (λ (p : Past). AreDue M p earlier) (sym past_same) inside.before in
       entries_now M longer P
       ∙ filter-append (λ (y : EntryValue). y.cycle == length P) earlier (current ++ new)
-      ∙ ap (λ es. es ++ entries_of (length P) (current ++ new)) (entries_of-earlier (length P) earlier (due_earlier M P earlier before))
+      ∙ ap (λ es. es ++ entries_of (length P) (current ++ new))
+      (entries_of-earlier (length P) earlier (due_earlier M P earlier before))
       ∙ ap (λ m. entries_of m (current ++ new)) (length-cycles_before M longer n)
       ∙ entries_of-all n (current ++ new) these
 
@@ -151,13 +171,16 @@ module _ (M : MissionValue) (earlier current new : Log) (steps : Steps) (slot : 
   up_to_slot s = nat_le (slot_index s) (slot_index slot)
 
   new_slots : list_all (λ (y : EntryValue). up_to_slot y.slot) new ≡ true
-  new_slots = slots_of M K n steps up_to_slot (slot_carries n e slot) new (in_slot n e slot up_to_slot (le-leb (slot_index slot) (slot_index slot) (omega arith))) carried
+  new_slots = slots_of M K n steps up_to_slot (slot_carries n e slot) new
+      (in_slot n e slot up_to_slot (le-leb (slot_index slot) (slot_index slot) (omega arith))) carried
 
   now_slots : list_all (λ (y : EntryValue). up_to_slot y.slot) current ≡ true
   now_slots =
       slots_of M K n steps up_to_slot (carries_done n e (stage_before slot)) current
-      (all_of_flat (λ (carry : Carry). up_to_slot carry.slot) (λ s. nat_lt (slot_index s) (slot_index slot)) (slot_carries n e) (take (slot_index slot) every_slot) (earlier_slots slot on)
-      (λ s h. in_slot n e s up_to_slot (le-leb (slot_index s) (slot_index slot) (omega (arith, leb-true (suc (slot_index s)) (slot_index slot) h)))))
+      (all_of_flat (λ (carry : Carry). up_to_slot carry.slot) (λ s. nat_lt (slot_index s) (slot_index slot))
+      (slot_carries n e) (take (slot_index slot) every_slot) (earlier_slots slot on)
+      (λ s h. in_slot n e s up_to_slot
+      (le-leb (slot_index s) (slot_index slot) (omega (arith, leb-true (suc (slot_index s)) (slot_index slot) h)))))
       inside.made
 
   module _ (active charged marked : ChannelSet) (active_is : active ≡ e.active)
@@ -167,13 +190,15 @@ module _ (M : MissionValue) (earlier current new : Log) (steps : Steps) (slot : 
     all_charged q low =
         marked_are q low
         ∙ ap (λ b. b || list_any (is_charge n slot q) new) (charged_are q low)
-        ∙ ap (λ b. list_any (is_charge n Switch q) current || b) (same_charge n slot q new (place_low slot on) new_slots)
+        ∙ ap (λ b. list_any (is_charge n Switch q) current || b)
+        (same_charge n slot q new (place_low slot on) new_slots)
         ∙ sym (list_any-append (is_charge n Switch q) current new)
 
     in_facts : (q : Channel) → q < 7 → has marked q ≡ list_any (is_charge n slot q) x.entries
     in_facts q low =
         all_charged q low
-        ∙ sym (same_charge n slot q (current ++ new) (place_low slot on) (all-append (λ (y : EntryValue). up_to_slot y.slot) current new now_slots new_slots))
+        ∙ sym (same_charge n slot q (current ++ new) (place_low slot on)
+        (all-append (λ (y : EntryValue). up_to_slot y.slot) current new now_slots new_slots))
         ∙ ap (list_any (is_charge n slot q)) (sym entries_are)
 
     active_same : active ≡ x.active
@@ -188,13 +213,24 @@ module _ (M : MissionValue) (earlier current new : Log) (steps : Steps) (slot : 
           entries = entries_are;
           active_is = active_same;
           charged = all_charged;
-          disturbed = ap (λ (s : ChannelSet). disturbed_by s marked w.ledger) active_same ∙ ap (disturbed_by x.active marked) ledger_same ∙ disturbed_are M longer n inside.ranges slot marked in_facts;
-          halts = ap (λ (s : ChannelSet). limit_reached s marked w.ledger) active_same ∙ ap (limit_reached x.active marked) ledger_same ∙ stop_is M longer n inside.ranges slot marked in_facts;
-          full = λ passed were. subst (λ (X : Log). AreFull M (cycles_before M X n) (cycle_at M X n) steps) (append_assoc earlier current new) (full_later M K new n (slot_index slot) late (omega (arith, passed)) steps were);
+          disturbed = ap (λ (s : ChannelSet). disturbed_by s marked w.ledger) active_same
+              ∙ ap (disturbed_by x.active marked) ledger_same
+              ∙ disturbed_are M longer n inside.ranges slot marked in_facts;
+          halts = ap (λ (s : ChannelSet). limit_reached s marked w.ledger) active_same
+              ∙ ap (limit_reached x.active marked) ledger_same ∙ stop_is M longer n inside.ranges slot marked in_facts;
+          full = λ passed were. subst (λ (X : Log). AreFull M (cycles_before M X n) (cycle_at M X n) steps)
+              (append_assoc earlier current new)
+              (full_later M K new n (slot_index slot) late (omega (arith, passed)) steps were);
         }
 
-pub slot_ends : (M : MissionValue) (earlier current new : Log) (steps : Steps) (slot : Slot) (active charged marked : ChannelSet) (w : WorldValue) → on_bus slot ≡ true →
-    InCycle M earlier current steps slot (stage_before slot) (stage_before slot) w → AreDueCarries M (earlier ++ current) w.done steps (slot_carries w.done (cycle_at M (earlier ++ current) w.done) slot) new →
-    active ≡ (cycle_at M (earlier ++ current) w.done).active → ((q : Channel) → q < 7 → has charged q ≡ list_any (is_charge w.done Switch q) current) →
-    ((q : Channel) → q < 7 → has marked q ≡ (has charged q || list_any (is_charge w.done slot q) new)) → SlotEnds M earlier current new steps slot active marked w
-slot_ends M earlier current new steps slot active charged marked w on inside carried active_is charged_are marked_are = ends M earlier current new steps slot w on inside carried active charged marked active_is charged_are marked_are
+pub slot_ends : (M : MissionValue) (earlier current new : Log) (steps : Steps) (slot : Slot)
+    (active charged marked : ChannelSet) (w : WorldValue) → on_bus slot ≡ true →
+    InCycle M earlier current steps slot (stage_before slot) (stage_before slot) w →
+    AreDueCarries M (earlier ++ current) w.done steps
+    (slot_carries w.done (cycle_at M (earlier ++ current) w.done) slot) new →
+    active ≡ (cycle_at M (earlier ++ current) w.done).active →
+    ((q : Channel) → q < 7 → has charged q ≡ list_any (is_charge w.done Switch q) current) →
+    ((q : Channel) → q < 7 → has marked q ≡ (has charged q || list_any (is_charge w.done slot q) new)) →
+    SlotEnds M earlier current new steps slot active marked w
+slot_ends M earlier current new steps slot active charged marked w on inside carried active_is charged_are marked_are =
+    ends M earlier current new steps slot w on inside carried active charged marked active_is charged_are marked_are

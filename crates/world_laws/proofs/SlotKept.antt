@@ -37,16 +37,19 @@ module _ (M : MissionValue) (L new : Log) (n place : ℕ) (late : AreFromPlace n
 
   late_here : AreFromPlace c place (entries_of c new)
   late_here =
-      All-filter (λ (y : EntryValue). (c < y.cycle) ⊎ ((y.cycle ≡ c) × (place ≤ slot_index y.slot))) (λ y. y.cycle == c) new
+      All-filter (λ (y : EntryValue). (c < y.cycle) ⊎ ((y.cycle ≡ c) × (place ≤ slot_index y.slot))) (λ y. y.cycle == c)
+      new
       (subst (λ m. AreFromPlace m place new) (sym (length-cycles_before M L n)) late)
 
   known : (slot : Slot) → suc (slot_index slot) ≤ place → FactsStay M (entries_of c L) (entries_of c new) past slot
-  known slot early = facts_stand M (entries_of c L) (entries_of c new) past slot (weaken c (suc (slot_index slot)) place (entries_of c new) early late_here)
+  known slot early = facts_stand M (entries_of c L) (entries_of c new) past slot
+      (weaken c (suc (slot_index slot)) place (entries_of c new) early late_here)
 
   -- what holds of the past and of the cycle with the new entries holds of the longer log
   pub grown : (Φ : Past → Cycle → Type 0) → Φ past more → Φ (cycles_before M (L ++ new) n) (cycle_at M (L ++ new) n)
   grown Φ h =
-      subst (λ (p : Past). Φ p (next_cycle M (L ++ new) p)) (sym (cycles_before-append M L new n (from_cycle n place new late)))
+      subst (λ (p : Past). Φ p (next_cycle M (L ++ new) p))
+      (sym (cycles_before-append M L new n (from_cycle n place new late)))
       (subst (λ es. Φ past (cycle_from M es past)) (sym (filter-append (λ (y : EntryValue). y.cycle == c) L new)) h)
 
   -- ---- full steps
@@ -55,14 +58,23 @@ module _ (M : MissionValue) (L new : Log) (n place : ℕ) (late : AreFromPlace n
   unfolding cycle_from
   origin_stays early q =
       let O : List ℤ → List ℕ → Origin =
-      λ inputs plan. record { context = context_or_none (place_or (cycle_start_of M past).contexts_before q None); row = cycle_writes M c; cycle = c; inputs = inputs; plan = plan } in
-      ap (λ (a : Agreement). O a.inputs more.planned) ((known Round3 early).agreed refl) ∙ ap (λ (d : DecisionValue). O e.inputs d.planned) ((known Round3 early).decided refl)
+      λ inputs plan. record {
+        context = context_or_none (place_or (cycle_start_of M past).contexts_before q None);
+        row = cycle_writes M c;
+        cycle = c;
+        inputs = inputs;
+        plan = plan;
+      } in
+      ap (λ (a : Agreement). O a.inputs more.planned) ((known Round3 early).agreed refl)
+      ∙ ap (λ (d : DecisionValue). O e.inputs d.planned) ((known Round3 early).decided refl)
 
   stay_full : 4 ≤ place → (steps : Steps) → AreFull M past e steps → AreFull M past more steps
   unfolding cycle_from
-  stay_full early steps were q there = subst (λ (o : Origin). IsFull o (steps_of steps q)) (sym (origin_stays early q)) (were q there)
+  stay_full early steps were q there =
+      subst (λ (o : Origin). IsFull o (steps_of steps q)) (sym (origin_stays early q)) (were q there)
 
-  pub full_later : 4 ≤ place → (steps : Steps) → AreFull M past e steps → AreFull M (cycles_before M (L ++ new) n) (cycle_at M (L ++ new) n) steps
+  pub full_later : 4 ≤ place → (steps : Steps) → AreFull M past e steps →
+      AreFull M (cycles_before M (L ++ new) n) (cycle_at M (L ++ new) n) steps
   full_later early steps were = grown (λ p x. AreFull M p x steps) (stay_full early steps were)
 
   -- ---- what the rounds settle
@@ -76,11 +88,13 @@ module _ (M : MissionValue) (L new : Log) (n place : ℕ) (late : AreFromPlace n
 
   ideal_same : 4 ≤ place → more.ideal_context ≡ e.ideal_context
   unfolding cycle_from work_of
-  ideal_same early = ap (λ (a : Agreement). whole (cycle_writes M c) (ideal_after M past) c a.inputs) ((known Round3 early).agreed refl)
+  ideal_same early = ap (λ (a : Agreement). whole (cycle_writes M c) (ideal_after M past) c a.inputs)
+      ((known Round3 early).agreed refl)
 
   remaining_same : 4 ≤ place → more.remaining ≡ e.remaining
   unfolding cycle_from work_of
-  remaining_same early = ap (λ (d : DecisionValue). remaining_of M past d.transfer d.planned) ((known Round3 early).decided refl)
+  remaining_same early = ap (λ (d : DecisionValue). remaining_of M past d.transfer d.planned)
+      ((known Round3 early).decided refl)
 
   pub rounds_later : 4 ≤ place → RoundsStay M L new n
   rounds_later early =
@@ -103,8 +117,11 @@ module _ (M : MissionValue) (L new : Log) (n place : ℕ) (late : AreFromPlace n
   line_same early q =
       let facts = known Vote early in
       ap (λ (a : Agreement). record (line_of M more q) { inputs = a.inputs }) (facts.agreed refl)
-      ∙ ap (λ (d : DecisionValue). record (line_of M more q) { inputs = e.inputs; judged = d.judged; counts = take M.rules.channels d.counts }) (facts.decided refl)
-      ∙ ap (λ (votes : List (List (Option ℤ))). record (line_of M e q) { votes = place_or votes q [] }) (facts.voted refl)
+      ∙ ap (λ (d : DecisionValue).
+      record (line_of M more q) { inputs = e.inputs; judged = d.judged; counts = take M.rules.channels d.counts })
+      (facts.decided refl)
+      ∙ ap (λ (votes : List (List (Option ℤ))). record (line_of M e q) { votes = place_or votes q [] })
+      (facts.voted refl)
 
   pub vote_later : 6 ≤ place → VoteStays M L new n
   vote_later early =

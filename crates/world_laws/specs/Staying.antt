@@ -6,8 +6,8 @@ use Rattle.guards_model.specs.Network.{Log}
 use Rattle.guards_runs.specs.Cycles.{cycles_before, cycle_at}
 use Rattle.guards_runs.specs.Report.{line_of}
 
--- Entries from the tasks slot on: the earlier cycles, who is active and in which mode, what the rounds settle and decide,
--- and what the tasks make of it.
+-- Entries from the tasks slot on: the earlier cycles, who is active and in which mode, what the rounds settle and
+-- decide, and what the tasks make of it.
 pub record RoundsStay (M : MissionValue) (L new : Log) (n : ℕ) : Type 0 where
   pub past : cycles_before M (L ++ new) n ≡ cycles_before M L n
   pub opening : (cycle_at M (L ++ new) n).opening ≡ (cycle_at M L n).opening

@@ -16,12 +16,14 @@ ghost use Rattle.guards_world.specs.InCycle.{InCycle};
 ghost use Rattle.guards_world.specs.Passing.{AreDueCarries};
 ghost use Rattle.world_laws.specs.Ended.{SlotEnds};
 
-/// When all entries of a slot are carried, and the senders of whom one was not delivered as sent are marked beside those who
-/// were charged before, what the world holds tells who is disturbed and whether the run stops in the slot.
+/// When all entries of a slot are carried, and the senders of whom one was not delivered as sent are marked beside
+/// those who were charged before, what the world holds tells who is disturbed and whether the run stops in the slot.
 pub fn slots_end()
-    ensures { (M : MissionValue) (earlier current new : Log) (steps : Steps) (slot : Slot) (active charged marked : ChannelSet) (w : WorldValue) →
+    ensures { (M : MissionValue) (earlier current new : Log) (steps : Steps) (slot : Slot)
+        (active charged marked : ChannelSet) (w : WorldValue) →
         on_bus slot ≡ true → InCycle M earlier current steps slot (stage_before slot) (stage_before slot) w →
-        AreDueCarries M (earlier ++ current) w.done steps (slot_carries w.done (cycle_at M (earlier ++ current) w.done) slot) new →
+        AreDueCarries M (earlier ++ current) w.done steps
+        (slot_carries w.done (cycle_at M (earlier ++ current) w.done) slot) new →
         active ≡ (cycle_at M (earlier ++ current) w.done).active →
         ((q : Channel) → q < 7 → has charged q ≡ list_any (is_charge w.done Switch q) current) →
         ((q : Channel) → q < 7 → has marked q ≡ (has charged q || list_any (is_charge w.done slot q) new)) →

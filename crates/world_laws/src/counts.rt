@@ -11,8 +11,11 @@ ghost use Rattle.guards_world.specs.InCycle.{InCycle};
 
 /// Within a cycle no more than a million entries were carried since the start, and a slot carries no more than 49.
 pub fn entries_fit()
-    ensures carried { (M : MissionValue) (earlier current : Log) (steps : Steps) (slot : Slot) (carried handed : ℕ) (w : WorldValue) →
+    ensures carried { (M : MissionValue) (earlier current : Log) (steps : Steps) (slot : Slot) (carried handed : ℕ)
+        (w : WorldValue) →
         InCycle M earlier current steps slot carried handed w → w.carried ≤ 1000000 }
-    ensures slot { (M : MissionValue) (earlier current : Log) (steps : Steps) (last slot : Slot) (carried handed : ℕ) (w : WorldValue) →
-        InCycle M earlier current steps last carried handed w → length (slot_carries w.done (cycle_at M (earlier ++ current) w.done) slot) ≤ 49 }
+    ensures slot { (M : MissionValue) (earlier current : Log) (steps : Steps) (last slot : Slot) (carried handed : ℕ)
+        (w : WorldValue) →
+        InCycle M earlier current steps last carried handed w →
+        length (slot_carries w.done (cycle_at M (earlier ++ current) w.done) slot) ≤ 49 }
 {}

@@ -15,14 +15,16 @@ ghost use Rattle.guards_world.specs.InCycle.{InCycle};
 ghost use Rattle.guards_world.specs.WorldCycle.{AreFull, IsLinePadded, Ends};
 ghost use Rattle.guards_world.specs.Passing.{world_after, IsStopIn, IsFront};
 
-/// Where all slots of a cycle are done and the steps of all who worked are full, the world after it has finished the cycle:
-/// the longer log stands for it, the cycle is sound, each channel that goes on running has its trail, and a whole channel
-/// holds its replica with the final content put in. `w` is the world within the cycle that `old` has begun.
+/// Where all slots of a cycle are done and the steps of all who worked are full, the world after it has finished the
+/// cycle: the longer log stands for it, the cycle is sound, each channel that goes on running has its trail, and a
+/// whole channel holds its replica with the final content put in. `w` is the world within the cycle that `old` has
+/// begun.
 pub fn cycles_finish()
     ensures { (old w new : WorldValue) (earlier current : Log) (steps : Steps) (part : RecordValue) →
         w.mission ≡ old.mission → w.done ≡ old.done →
         InCycle w.mission earlier current steps Switch (stage_after Switch) (stage_after Switch) w →
-        AreFull w.mission (cycles_before w.mission (earlier ++ current) w.done) (cycle_at w.mission (earlier ++ current) w.done) steps →
+        AreFull w.mission (cycles_before w.mission (earlier ++ current) w.done)
+        (cycle_at w.mission (earlier ++ current) w.done) steps →
         shown w.mission.rules.channels w.mission.width (length w.mission.outputs) part
         ≡ cycle_record w.mission steps w.done (cycle_at w.mission (earlier ++ current) w.done) →
         AllByRecursion (IsLinePadded w.mission) part.lines →
@@ -37,7 +39,8 @@ pub fn cycles_stop()
         IsStopIn w.mission earlier current w.done steps stop.slot →
         stop_in w.done (cycle_at w.mission (earlier ++ current) w.done) ≡ Some stop →
         (slot_index Tasks < slot_index stop.slot →
-        AreFull w.mission (cycles_before w.mission (earlier ++ current) w.done) (cycle_at w.mission (earlier ++ current) w.done) steps) →
+        AreFull w.mission (cycles_before w.mission (earlier ++ current) w.done)
+        (cycle_at w.mission (earlier ++ current) w.done) steps) →
         new.mission ≡ w.mission → new.done ≡ w.done → new.spent ≡ Some (disturbed stop) →
         Ends old earlier current (Err (disturbed stop)) new }
 {}

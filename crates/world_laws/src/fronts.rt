@@ -12,11 +12,13 @@ ghost use Rattle.guards_world.specs.InCycle.{InCycle};
 ghost use Rattle.guards_world.specs.Passing.{AreDueCarries};
 ghost use Rattle.world_laws.specs.Fronts.{IsRunFront};
 
-/// Within a slot, when only some of its entries were carried, what the log has of the cycle is a front of the run's due entries:
-/// the slots before did not stop the run, and nothing of a later one was carried.
+/// Within a slot, when only some of its entries were carried, what the log has of the cycle is a front of the run's due
+/// entries: the slots before did not stop the run, and nothing of a later one was carried.
 pub fn fronts_end_at_stops()
-    ensures { (M : MissionValue) (earlier current new : Log) (steps : Steps) (slot : Slot) (w : WorldValue) (few : ℕ) → on_bus slot ≡ true →
+    ensures { (M : MissionValue) (earlier current new : Log) (steps : Steps) (slot : Slot) (w : WorldValue) (few : ℕ) →
+        on_bus slot ≡ true →
         InCycle M earlier current steps slot (stage_before slot) (stage_before slot) w →
-        AreDueCarries M (earlier ++ current) w.done steps (take few (slot_carries w.done (cycle_at M (earlier ++ current) w.done) slot)) new →
+        AreDueCarries M (earlier ++ current) w.done steps
+        (take few (slot_carries w.done (cycle_at M (earlier ++ current) w.done) slot)) new →
         IsRunFront M earlier (current ++ new) w.done }
 {}

@@ -1,5 +1,5 @@
-//! Laws that tie the world to the facts of a run: the ledger, the stop, and the log that stands for the world from cycle to
-//! cycle. Each is the contract of a function without a body.
+//! Laws that tie the world to the facts of a run: the ledger, the stop, and the log that stands for the world from
+//! cycle to cycle. Each is the contract of a function without a body.
 #![tactic(auto)]
 
 mod carried;
@@ -38,7 +38,8 @@ pub use fronts::fronts_end_at_stops;
 pub use sends::sends_are_due;
 pub use staying::{channels_run, decisions_stay, full_stays, later_slots_follow, steps_come_later};
 
-/// The ledger goes from cycle to cycle and from slot to slot as the facts say: it has their modes and their marks of damage.
+/// The ledger goes from cycle to cycle and from slot to slot as the facts say: it has their modes and their marks of
+/// damage.
 pub fn ledger_follows()
     ensures joins { (M : MissionValue) (L : Log) (n : ℕ) (q : Channel) → q < 7 →
         let past = cycles_before M L n in
@@ -46,9 +47,11 @@ pub fn ledger_follows()
         ≡ begins_to_join M past q }
     ensures enters { (M : MissionValue) (L : Log) (n : ℕ) →
         let past = cycles_before M L n in
-        ledger_in_slot M.script (this_cycle past) Request (ledger_at_start M.script (this_cycle past) (ledger_at M past))
+        ledger_in_slot M.script (this_cycle past) Request
+        (ledger_at_start M.script (this_cycle past) (ledger_at M past))
         ≡ ledger_in M (cycle_at M L n) Request }
-    ensures goes_on { (M : MissionValue) (L : Log) (n : ℕ) (before slot : Slot) → up_to before slot ≡ true → on_bus slot ≡ true →
+    ensures goes_on { (M : MissionValue) (L : Log) (n : ℕ) (before slot : Slot) → up_to before slot ≡ true →
+        on_bus slot ≡ true →
         ledger_in_slot M.script (this_cycle (cycles_before M L n)) slot (ledger_in M (cycle_at M L n) before)
         ≡ ledger_in M (cycle_at M L n) slot }
     ensures ends { (M : MissionValue) (L : Log) (n : ℕ) (on taken : ChannelSet) →
@@ -59,8 +62,8 @@ pub fn ledger_follows()
         ledger_at_end on taken (ledger_in M e Switch) ≡ ledger_at M (e ∷ past) }
 {}
 
-/// With this ledger, and the channels whose pieces did not arrive as they were sent, the disturbed channels are those of the
-/// facts, and the limit is reached exactly where the slot halts the run.
+/// With this ledger, and the channels whose pieces did not arrive as they were sent, the disturbed channels are those
+/// of the facts, and the limit is reached exactly where the slot halts the run.
 pub fn stops_are_found()
     ensures disturbed { (M : MissionValue) (L : Log) (n : ℕ) (slot : Slot) (charged : ChannelSet) → IsMission M →
         let e = cycle_at M L n in
@@ -72,8 +75,8 @@ pub fn stops_are_found()
         limit_reached e.active charged (ledger_in M e slot) ≡ halts n e slot }
 {}
 
-/// The empty log stands for the world of a mission before its first cycle, and a log that stands for a world is a run of
-/// the cycles that it has finished.
+/// The empty log stands for the world of a mission before its first cycle, and a log that stands for a world is a run
+/// of the cycles that it has finished.
 pub fn worlds_begin()
     ensures first { (M : MissionValue) → IsMission M → StandsForWorld (first_world M) [] }
     ensures runs { (w : WorldValue) (L : Log) → StandsForWorld w L → IsRun w.mission L w.done }

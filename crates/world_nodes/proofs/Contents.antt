@@ -7,7 +7,8 @@ use Rattle.guards_model.proofs.BoolTests.{both, and_true}
 use Rattle.guards_model.proofs.Tables.{has-channels_where}
 use Rattle.guards_world.specs.NodeLists.{Bodies, AreInRange}
 
-pub counts_fit : (got : Bodies) (j q : ℕ) (f : FinalValue) → AreInRange got → got j q ≡ Some (final_body f) → counts_in_range f.control.counts ≡ true
+pub counts_fit : (got : Bodies) (j q : ℕ) (f : FinalValue) → AreInRange got → got j q ≡ Some (final_body f) →
+    counts_in_range f.control.counts ≡ true
 counts_fit got j q f ranges h =
     let v = ranges j q (final_body f) h in
     let a = both (is_channel f.target) _ v.1 in
@@ -17,7 +18,8 @@ counts_fit got j q f ranges h =
     let e = both (is_set f.control.active) _ d.1 in
     (both (is_set f.control.fresh) (counts_in_range f.control.counts) e.1).1
 
-pub all_more : (fits : FinalValue → Bool) (xs : List FinalValue) (x : FinalValue) → list_all fits xs ≡ true → fits x ≡ true → list_all fits (xs ++ x ∷ []) ≡ true
+pub all_more : (fits : FinalValue → Bool) (xs : List FinalValue) (x : FinalValue) → list_all fits xs ≡ true →
+    fits x ≡ true → list_all fits (xs ++ x ∷ []) ≡ true
 all_more fits [] x h k = and_true (fits x) true k refl
 all_more fits (y ∷ xs) x h k =
     let parts = both (fits y) (list_all fits xs) h in
@@ -29,5 +31,6 @@ or_swapped true false = refl
 or_swapped false true = refl
 or_swapped false false = refl
 
-pub with_one : (set : ChannelSet) (c q : Channel) → q < 7 → has (union set (c ∷ [])) q ≡ ((true && (c == q)) || has set q)
+pub with_one : (set : ChannelSet) (c q : Channel) → q < 7 →
+    has (union set (c ∷ [])) q ≡ ((true && (c == q)) || has set q)
 with_one set c q low = has-channels_where (λ k. has set k || has (c ∷ []) k) q low ∙ or_swapped (has set q) (c == q)

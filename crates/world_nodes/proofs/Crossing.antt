@@ -22,7 +22,8 @@ rules_shares : IsSync rules.the_row
 rules_shares = search (sendable, crosses) depth 60 fits 20000
 
 pub mission_shares : IsSync mission.the_row
-mission_shares = search (sendable, crosses, table_shares, script_shares, rules_shares, actuator_shares) depth 60 fits 20000
+mission_shares = search (sendable, crosses, table_shares, script_shares, rules_shares, actuator_shares) depth 60 fits
+    20000
 
 pub number_shares : IsSync u32-field.row
 number_shares = search sendable

@@ -18,7 +18,8 @@ use Rattle.guards_world.specs.NodeLists.{Bodies, ballots_arrived, line_in}
 abbrev pub HasTaken : StateValue → Type 0
 HasTaken state = (j : JoinerValue) × (k : ControlValue) × (state ≡ returning j) × (j.taken ≡ Some k)
 
-taken_by : (j : JoinerValue) (b : Bool) (taken : Option ControlValue) → j.taken ≡ taken → b ≡ is_some j.taken → b ≡ true → HasTaken (returning j)
+taken_by : (j : JoinerValue) (b : Bool) (taken : Option ControlValue) → j.taken ≡ taken → b ≡ is_some j.taken →
+    b ≡ true → HasTaken (returning j)
 taken_by j b None e h t = differ (sym t ∙ h ∙ ap is_some e)
 taken_by j b (Some k) e h t = (j, k, refl, e)
 
@@ -31,11 +32,13 @@ may_rise resting b m h t = absurd cc
 may_rise (returning j) b m h t = taken_by j b j.taken refl (h j refl) t
 
 -- it ends the cycle running
-pub ended_risen : (on : Bool) (state : StateValue) (j : JoinerValue) (k : ControlValue) → state ≡ returning j → j.taken ≡ Some k →
+pub ended_risen : (on : Bool) (state : StateValue) (j : JoinerValue) (k : ControlValue) → state ≡ returning j →
+    j.taken ≡ Some k →
     ended_state on state ≡ running (risen j k)
 ended_risen on state j k s t = rw (s, t) refl
 
-stays_by : (on : Bool) (j : JoinerValue) (b : Bool) (taken : Option ControlValue) → j.taken ≡ taken → b ≡ is_some j.taken → b ≡ false →
+stays_by : (on : Bool) (j : JoinerValue) (b : Bool) (taken : Option ControlValue) → j.taken ≡ taken →
+    b ≡ is_some j.taken → b ≡ false →
     returning j ≡ ended_state on (returning j)
 stays_by on j b None e h f = rw e refl
 stays_by on j b (Some k) e h f = differ (sym (ap is_some e) ∙ sym h ∙ f)
@@ -51,9 +54,11 @@ joiner_stays on (returning j) b m h f = stays_by on j b j.taken refl (h j refl) 
 -- ---- a running node
 
 -- its line is the one that it answers
-pub line_is : (M : MissionValue) (got : Bodies) (me : Channel) (state : StateValue) (line : LineValue) → mode_of_state state ≡ mode.Up →
+pub line_is : (M : MissionValue) (got : Bodies) (me : Channel) (state : StateValue) (line : LineValue) →
+    mode_of_state state ≡ mode.Up →
     ((r : RunningValue) → state ≡ running r → (d : DecidedValue) × (r.progress.decided ≡ Some d)) →
-    ((r : RunningValue) (d : DecidedValue) → state ≡ running r → r.progress.decided ≡ Some d → line ≡ whole_line me M.outputs r d (ballots_arrived got me)) →
+    ((r : RunningValue) (d : DecidedValue) → state ≡ running r → r.progress.decided ≡ Some d →
+    line ≡ whole_line me M.outputs r d (ballots_arrived got me)) →
     Some line ≡ line_in M got me state
 line_is M got me (running r) line m had is =
     let d = had r refl in

@@ -15,13 +15,16 @@ abbrev pub with_steps : Channel → List Actor → TraceValue
 with_steps q steps = record { channel = q; steps = steps }
 
 told : (q : Channel) (worked : Option WorkedValue) →
-    option_map (with_steps q) (option_map (λ (w : WorkedValue). w.steps) worked) ≡ option_map (λ (w : WorkedValue). with_steps q w.steps) worked
+    option_map (with_steps q) (option_map (λ (w : WorkedValue). w.steps) worked)
+    ≡ option_map (λ (w : WorkedValue). with_steps q w.steps) worked
 told q None = refl
 told q (Some w) = refl
 
 pub trace_by : (q : Channel) (part : Option RunningValue) (steps : Option (List Actor)) →
     steps ≡ option_and_then (λ (r : RunningValue). option_map (λ (w : WorkedValue). w.steps) r.progress.worked) part →
-    option_map (with_steps q) steps ≡ option_map (λ (w : WorkedValue). with_steps q w.steps) (option_and_then (λ (r : RunningValue). r.progress.worked) part)
+    option_map (with_steps q) steps
+    ≡ option_map (λ (w : WorkedValue). with_steps q w.steps)
+    (option_and_then (λ (r : RunningValue). r.progress.worked) part)
 trace_by q None steps is = ap (option_map (with_steps q)) is
 trace_by q (Some r) steps is = ap (option_map (with_steps q)) is ∙ told q r.progress.worked
 
@@ -44,7 +47,10 @@ stepped P front left last now (Ok u) (Err e) h r = tt
 stepped P front left last now (Err e) b h r = tt
 
 -- where the others made their steps, and the last one its own, each made its step
-pub all_stepped : {A E : Type 0} (P : A → A × Result ⊤ E → Type 0) (all front left new : List A) (last now : A) (a b c : Result ⊤ E) →
+pub all_stepped : {A E : Type 0} (P : A → A × Result ⊤ E → Type 0) (all front left new : List A) (last now : A)
+    (a b c : Result ⊤ E) →
     all ≡ front ++ last ∷ [] → new ≡ left ++ now ∷ [] → c ≡ result_and a b →
-    OnOk a (AllZip (λ x y. P x (y, Ok tt)) front left) → P last (now, b) → OnOk c (AllZip (λ x y. P x (y, Ok tt)) all new)
-all_stepped P all front left new last now a b c was is both h r = rw (was, is, both) (stepped P front left last now a b h r)
+    OnOk a (AllZip (λ x y. P x (y, Ok tt)) front left) → P last (now, b) →
+    OnOk c (AllZip (λ x y. P x (y, Ok tt)) all new)
+all_stepped P all front left new last now a b c was is both h r =
+    rw (was, is, both) (stepped P front left last now a b h r)

@@ -7,8 +7,8 @@ ghost use denote.Param.Send.{IsSend};
 use std::alloc::AllocError;
 use std::thread::{Threads, join};
 
-/// Each item makes the step in a thread of its own, while the others do. They go to the threads as values, and come back
-/// in their order, also for want of memory.
+/// Each item makes the step in a thread of its own, while the others do. They go to the threads as values, and come
+/// back in their order, also for want of memory.
 pub(crate) fn each_beside<
     T: Drop + Send,
     F: Fn(T) -> (T, Result<(), AllocError>) + Sync,
@@ -32,7 +32,8 @@ pub(crate) fn each_beside<
         || -> (Vec<T>, Result<(), AllocError>)
             requires sync { IsSync R.row × IsSync F.row × IsSend T.row }
             requires may { All (λ x. F.pre step.now x) items.items }
-            ensures made { OnOk result.1 (AllZip (λ x y. F.post step.entry.now x (y, Ok tt)) items.items result.0.items) }
+            ensures made { OnOk result.1
+                (AllZip (λ x y. F.post step.entry.now x (y, Ok tt)) items.items result.0.items) }
             ensures count { length result.0.items ≡ length items.items }
             ensures room { vec_capacity result.0 ≡ vec_capacity items }
         { each_beside(rt, items, step) },

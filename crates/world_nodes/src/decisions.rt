@@ -13,8 +13,10 @@ use mission_type::Mission;
 
 fn decide_one(node: &mut Node, mission: &Mission, cycle: u32) -> Option<ChanSet>
     requires { MayDecide mission.now node.old }
-    ensures state { (received : AllReceived) → StandsForReceived received node.old → node.new ≡ with_decisions mission.now cycle received node.old }
-    ensures answer { (received : AllReceived) → StandsForReceived received node.old → result ≡ removed_in node.new.state }
+    ensures state { (received : AllReceived) → StandsForReceived received node.old →
+        node.new ≡ with_decisions mission.now cycle received node.old }
+    ensures answer { (received : AllReceived) → StandsForReceived received node.old →
+        result ≡ removed_in node.new.state }
 {
     match node.mode() {
         Mode::Up => {
@@ -27,8 +29,10 @@ fn decide_one(node: &mut Node, mission: &Mission, cycle: u32) -> Option<ChanSet>
 
 fn decide_each(nodes: &mut [Node], mission: &Mission, cycle: u32) -> Option<ChanSet>
     requires { All (MayDecide mission.now) nodes.old }
-    ensures state { (received : AllReceived) → All (StandsForReceived received) nodes.old → nodes.new ≡ map (with_decisions mission.now cycle received) nodes.old }
-    ensures answer { (received : AllReceived) → All (StandsForReceived received) nodes.old → result ≡ first_removed nodes.new }
+    ensures state { (received : AllReceived) → All (StandsForReceived received) nodes.old →
+        nodes.new ≡ map (with_decisions mission.now cycle received) nodes.old }
+    ensures answer { (received : AllReceived) → All (StandsForReceived received) nodes.old →
+        result ≡ first_removed nodes.new }
 {
     let Some((node, rest)) = nodes.split_first_mut() else {
         return None;
@@ -53,21 +57,24 @@ fn first_up(nodes: &[Node]) -> Option<&Node>
 }
 
 impl Nodes {
-    /// The running nodes, whose exchange has begun, settle the words of the cycle by what they received, and decide. Answers
-    /// whom the first of them removes; none where no node runs.
+    /// The running nodes, whose exchange has begun, settle the words of the cycle by what they received, and decide.
+    /// Answers whom the first of them removes; none where no node runs.
     pub fn decide(&mut self, mission: &Mission, cycle: u32) -> Option<ChanSet>
         requires { All (MayDecide mission.now) self.old }
-        ensures state { (received : AllReceived) → All (StandsForReceived received) self.old → self.new ≡ map (with_decisions mission.now cycle received) self.old }
-        ensures answer { (received : AllReceived) → All (StandsForReceived received) self.old → result ≡ first_removed self.new }
+        ensures state { (received : AllReceived) → All (StandsForReceived received) self.old →
+            self.new ≡ map (with_decisions mission.now cycle received) self.old }
+        ensures answer { (received : AllReceived) → All (StandsForReceived received) self.old →
+            result ≡ first_removed self.new }
         ensures count { length self.new ≡ length self.old }
     {
         decide_each(self.list.as_mut_slice(), mission, cycle)
     }
 
-    /// The targets and the start of the transfer in the control of the first node that runs; none where it has no transfer, or
-    /// no node runs.
+    /// The targets and the start of the transfer in the control of the first node that runs; none where it has no
+    /// transfer, or no node runs.
     pub fn transfer(&self) -> Option<(ChanSet, u32)>
-        ensures { transfer_of_pair result ≡ option_and_then (λ r. transfer_in r.control.sweeping) (lowest_running self.now) }
+        ensures { transfer_of_pair result
+            ≡ option_and_then (λ r. transfer_in r.control.sweeping) (lowest_running self.now) }
     {
         let control = first_up(self.list.as_slice())?.control()?;
         let transfer = control.transfer.as_ref()?;

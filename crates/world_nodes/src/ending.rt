@@ -29,8 +29,8 @@ fn end_each(nodes: &mut [Node], on: ChanSet, taken: ChanSet)
 }
 
 impl Nodes {
-    /// Ends a cycle: the running nodes that are switched off wait, and those that took a final content, which are these,
-    /// run with it.
+    /// Ends a cycle: the running nodes that are switched off wait, and those that took a final content, which are
+    /// these, run with it.
     pub fn end(&mut self, on: ChanSet, taken: ChanSet)
         requires { All (TookContent taken) self.old }
         ensures state { self.new ≡ map (ended_on on) self.old }

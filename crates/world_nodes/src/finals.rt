@@ -38,7 +38,9 @@ fn put_final<A: Arrived>(
 ) -> Result<(), AllocError>
     requires ranges { AreInRange (A.got arrived.now) }
     requires fits { list_all (λ content. counts_in_range content.control.counts) list.old.items ≡ true }
-    ensures items { OnOk result (list.new.items ≡ list.old.items ++ filter_map (λ j. final_content (A.got arrived.now j me)) (filter (has members) (from ∷ []))) }
+    ensures items { OnOk result
+        (list.new.items ≡ list.old.items
+        ++ filter_map (λ j. final_content (A.got arrived.now j me)) (filter (has members) (from ∷ []))) }
     ensures fits { OnOk result (list_all (λ content. counts_in_range content.control.counts) list.new.items ≡ true) }
 {
     if !members.has(from) {
@@ -62,7 +64,9 @@ fn put_finals<A: Arrived>(
 ) -> Result<(), AllocError>
     requires ranges { AreInRange (A.got arrived.now) }
     requires fits { list_all (λ content. counts_in_range content.control.counts) list.old.items ≡ true }
-    ensures items { OnOk result (list.new.items ≡ list.old.items ++ filter_map (λ j. final_content (A.got arrived.now j me)) (filter (has members) channels.now)) }
+    ensures items { OnOk result
+        (list.new.items ≡ list.old.items
+        ++ filter_map (λ j. final_content (A.got arrived.now j me)) (filter (has members) channels.now)) }
     ensures fits { OnOk result (list_all (λ content. counts_in_range content.control.counts) list.new.items ≡ true) }
 {
     let Some((from, rest)) = channels.split_first() else {
@@ -83,7 +87,8 @@ fn finals<A: Arrived>(
 ) -> Result<Finals, AllocError>
     requires { AreInRange (A.got arrived.now) }
     ensures items { IfOk result (λ list. list.items ≡ finals_of members (A.got arrived.now) me) }
-    ensures fits { IfOk result (λ list. list_all (λ content. counts_in_range content.control.counts) list.items ≡ true) }
+    ensures fits { IfOk result
+        (λ list. list_all (λ content. counts_in_range content.control.counts) list.items ≡ true) }
 {
     let _ = members.flags();
     let mut list = Finals::new(alloc);

@@ -32,7 +32,9 @@ fn put_sweep<A: Arrived>(
     me: Chan,
     from: Chan,
 ) -> Result<(), AllocError>
-    ensures { OnOk result (list.new.items ≡ list.old.items ++ filter_map (λ j. sweep_content (A.got arrived.now j me)) (filter (has members) (from ∷ []))) }
+    ensures { OnOk result (list.new.items
+        ≡ list.old.items ++ filter_map (λ j. sweep_content (A.got arrived.now j me))
+        (filter (has members) (from ∷ []))) }
 {
     if !members.has(from) {
         return Ok(());
@@ -53,7 +55,9 @@ fn put_sweeps<A: Arrived>(
     me: Chan,
     channels: &[Chan],
 ) -> Result<(), AllocError>
-    ensures { OnOk result (list.new.items ≡ list.old.items ++ filter_map (λ j. sweep_content (A.got arrived.now j me)) (filter (has members) channels.now)) }
+    ensures { OnOk result (list.new.items
+        ≡ list.old.items ++ filter_map (λ j. sweep_content (A.got arrived.now j me))
+        (filter (has members) channels.now)) }
 {
     let Some((from, rest)) = channels.split_first() else {
         return Ok(());

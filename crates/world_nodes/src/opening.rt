@@ -98,8 +98,8 @@ fn open_each(
 }
 
 impl Nodes {
-    /// Opens a cycle in which these channels begin to join: each running node is damaged as the script says and forms its
-    /// source word. For want of memory nothing is known of the nodes but how many there are.
+    /// Opens a cycle in which these channels begin to join: each running node is damaged as the script says and forms
+    /// its source word. For want of memory nothing is known of the nodes but how many there are.
     pub fn open(
         &mut self,
         alloc: Global,

@@ -23,7 +23,8 @@ fn hear_one<A: Arrived>(node: &mut Node, arrived: &A, from: Chan)
 
 // The requests of these channels, in order.
 fn hear_from<A: Arrived>(node: &mut Node, arrived: &A, channels: &[Chan])
-    ensures { node.new ≡ changed (after_requests (λ j. have_of (A.got arrived.now j node.old.channel)) channels.now) node.old }
+    ensures { node.new ≡ changed (after_requests (λ j. have_of (A.got arrived.now j node.old.channel)) channels.now)
+        node.old }
 {
     let Some((from, rest)) = channels.split_first() else {
         return;

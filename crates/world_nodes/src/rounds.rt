@@ -37,7 +37,8 @@ fn receive_one<A: Arrived>(node: &mut Node, arrived: &A, round: u8, others: Chan
     requires rounds { AreOfRound round (A.got arrived.now) }
     requires ranges { AreInRange (A.got arrived.now) }
     ensures { (received : Received) → MayTake round others (from ∷ []) received node.old → node.new ≡
-        changed (after_exchanges round (λ j. items_of (A.got arrived.now j node.old.channel)) received (filter (has others) (from ∷ []))) node.old }
+        changed (after_exchanges round (λ j. items_of (A.got arrived.now j node.old.channel)) received
+        (filter (has others) (from ∷ []))) node.old }
 {
     if others.has(from) {
         let frame = exchange(arrived, round, from, node.channel());
@@ -59,7 +60,8 @@ fn receive_from<A: Arrived>(
     requires rounds { AreOfRound round (A.got arrived.now) }
     requires ranges { AreInRange (A.got arrived.now) }
     ensures { (received : Received) → MayTake round others channels.now received node.old → node.new ≡
-        changed (after_exchanges round (λ j. items_of (A.got arrived.now j node.old.channel)) received (filter (has others) channels.now)) node.old }
+        changed (after_exchanges round (λ j. items_of (A.got arrived.now j node.old.channel)) received
+        (filter (has others) channels.now)) node.old }
 {
     let Some((from, rest)) = channels.split_first() else {
         return;

@@ -67,7 +67,8 @@ fn vote_each<A: Arrived>(
 ) -> Result<(), AllocError>
     requires { All (HasDecision mission.now) nodes.old }
     ensures state { OnOk result (nodes.new ≡ map (with_votes mission.now (A.got arrived.now)) nodes.old) }
-    ensures lines { OnOk result (lines.new.items ≡ lines.old.items ++ filter_map (vote_line mission.now (A.got arrived.now)) nodes.old) }
+    ensures lines { OnOk result
+        (lines.new.items ≡ lines.old.items ++ filter_map (vote_line mission.now (A.got arrived.now)) nodes.old) }
 {
     if let Some((node, rest)) = nodes.split_first_mut() {
         let line = vote_one(node, mission, arrived);
@@ -88,7 +89,8 @@ impl Nodes {
     ) -> Result<Lines, AllocError>
         requires { All (HasDecision mission.now) self.old }
         ensures state { OnOk result (self.new ≡ map (with_votes mission.now (A.got arrived.now)) self.old) }
-        ensures lines { IfOk result (λ lines. lines.items ≡ filter_map (vote_line mission.now (A.got arrived.now)) self.old) }
+        ensures lines { IfOk result
+            (λ lines. lines.items ≡ filter_map (vote_line mission.now (A.got arrived.now)) self.old) }
         ensures count { length self.new ≡ length self.old }
     {
         let mut lines = Lines::new(alloc);

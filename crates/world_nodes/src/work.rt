@@ -74,9 +74,9 @@ fn trace_each(alloc: Global, traces: &mut Traces, nodes: &[Node]) -> Result<(), 
 }
 
 impl Nodes {
-    /// The running nodes, which have decided, make the writes and the copies of the cycle, all at the same time: each in a
-    /// thread of its own, by two workers. Answers the round of each, in order. For want of memory nothing is known of the
-    /// nodes but how many there are. It may wait.
+    /// The running nodes, which have decided, make the writes and the copies of the cycle, all at the same time: each
+    /// in a thread of its own, by two workers. Answers the round of each, in order. For want of memory nothing is known
+    /// of the nodes but how many there are. It may wait.
     #[tactic(auto, using(crate::proofs::Crossing::mission_shares))]
     pub fn work<C: Calls + Sync, G: Gate, R: Threads + Wait + Sync>(
         &mut self,

@@ -11,9 +11,11 @@ positive : (n : ℕ) → within 1 2000 n ≡ true → 0 < n
 positive zero h = absurd cc
 positive (suc n) h = omega arith
 
-pub begins : (M : MissionValue) (w : WorldValue) (bus : BusValue) → IsMission M → w ≡ first_world M → bus.log ≡ [] → MayCycle w bus
+pub begins : (M : MissionValue) (w : WorldValue) (bus : BusValue) → IsMission M → w ≡ first_world M → bus.log ≡ [] →
+    MayCycle w bus
 begins M w bus mission begun empty =
     subst (λ (v : WorldValue). MayCycle v bus) (sym begun) (record {
       below = positive M.cycles mission.cycles;
-      stands = λ unspent. subst (λ (L : Log). StandsForWorld (first_world M) (last_entries 0 L)) (sym empty) (first_stands M mission);
+      stands = λ unspent. subst (λ (L : Log). StandsForWorld (first_world M) (last_entries 0 L)) (sym empty)
+          (first_stands M mission);
     })

@@ -3,8 +3,8 @@ use ctx_lock::{Actor, Gate};
 use std::sync::atomic::{AtomicBool, Ordering};
 use std::thread;
 
-/// Channels 0 and 1 do not step before both are about to. Where they work one after the other, the turns of the first one
-/// run out, and it is noted that it waited in vain.
+/// Channels 0 and 1 do not step before both are about to. Where they work one after the other, the turns of the first
+/// one run out, and it is noted that it waited in vain.
 #[derive(Drop)]
 pub struct Meeting {
     first: AtomicBool,

@@ -36,8 +36,8 @@ pub struct Reached {
     pub halt: Option<Halt>,
 }
 
-/// What came of a mission: the text of its cycles, with the line of a stop, and how far the world came, at its end or its
-/// first halt and after a further call where it halted.
+/// What came of a mission: the text of its cycles, with the line of a stop, and how far the world came, at its end or
+/// its first halt and after a further call where it halted.
 #[derive(Drop)]
 pub struct Outcome {
     pub text: Text,

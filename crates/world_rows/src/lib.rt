@@ -1,5 +1,5 @@
-//! Worked missions passed by the world, over both kinds of bus, and that channels and their workers work at the same time, as tests
-//! of the crate that it stands on.
+//! Worked missions passed by the world, over both kinds of bus, and that channels and their workers work at the same
+//! time, as tests of the crate that it stands on.
 #![tactic(auto)]
 
 #[cfg(test)]

@@ -3,8 +3,9 @@ use ctx_lock::{Actor, Gate};
 use std::sync::atomic::{AtomicBool, AtomicU32, Ordering};
 use std::thread;
 
-/// Each worker of channel 0 comes once in every cycle before its first step. In their fourth cycle neither goes on before
-/// both came. Where they work one after the other, the turns of the first run out, and it is noted that it waited in vain.
+/// Each worker of channel 0 comes once in every cycle before its first step. In their fourth cycle neither goes on
+/// before both came. Where they work one after the other, the turns of the first run out, and it is noted that it
+/// waited in vain.
 #[derive(Drop)]
 pub struct WorkersMeet {
     tasks: AtomicU32,

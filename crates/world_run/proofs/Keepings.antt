@@ -32,14 +32,17 @@ use Rattle.world_run.specs.Running.{WritesLine, cycle_text, stop_text, stop_valu
 use Rattle.world_run.specs.Keeping.{IsKept, Keeps, KeepsTo, KeptToHalt, KeptToStop, RunsLast, RunsToStopLast, TellsKept, kept_text}
 use Rattle.world_run.proofs.RunSteps.{head_is, last_is, part_is, stop_is}
 
-module _ (may : List RuleValue → EntryValue → Type 0) (k : ℕ) (trace : Bool) (M : MissionValue) (o : Option ActuatorValue) (start : BusValue) (w : WorldValue) (bus : BusValue) (gate : Option GateValue) (log : Kept) where
+module _ (may : List RuleValue → EntryValue → Type 0) (k : ℕ) (trace : Bool) (M : MissionValue)
+    (o : Option ActuatorValue) (start : BusValue) (w : WorldValue) (bus : BusValue) (gate : Option GateValue)
+    (log : Kept) where
   pub kept_mission : IsKept may k trace M o start w bus gate log → w.mission ≡ M
   kept_mission at = driven_mission may M start w bus gate at.0 at.1 o at.2
 
   pub kept_cycles : IsKept may k trace M o start w bus gate log → w.done ≤ w.mission.cycles
   kept_cycles at = driven_cycles may M start w bus gate at.0 at.1 o at.2
 
-module _ (may : List RuleValue → EntryValue → Type 0) (k : ℕ) (trace : Bool) (M : MissionValue) (o : Option ActuatorValue) (start : BusValue) where
+module _ (may : List RuleValue → EntryValue → Type 0) (k : ℕ) (trace : Bool) (M : MissionValue)
+    (o : Option ActuatorValue) (start : BusValue) where
   none_told : parts_told o trace M [] [] 0 ≡ []
   none_told = by o
     where
@@ -48,7 +51,8 @@ module _ (may : List RuleValue → EntryValue → Type 0) (k : ℕ) (trace : Boo
       by (Some a) = refl
 
   -- no cycle ran, and nothing was kept
-  pub first_kept : (w : WorldValue) (gate : Option GateValue) (log : Kept) → w ≡ first_world M → IsDriven o may M start (first_world M) start gate [] [] → log ≡ kept [] k →
+  pub first_kept : (w : WorldValue) (gate : Option GateValue) (log : Kept) → w ≡ first_world M →
+      IsDriven o may M start (first_world M) start gate [] [] → log ≡ kept [] k →
       IsKept may k trace M o start w start gate log
   first_kept w gate log fresh first empty =
       let none : 0 - k ≡ 0 = omega arith in
@@ -57,7 +61,8 @@ module _ (may : List RuleValue → EntryValue → Type 0) (k : ℕ) (trace : Boo
       subst (λ (x : WorldValue). IsKept may k trace M o start x start gate log) (sym fresh)
       ([], [], first, empty ∙ ap (λ (ps : List TextValue). kept ps k) (sym texts))
 
-  module _ (w new : WorldValue) (bus after : BusValue) (gate gate_after : Option GateValue) (log log' : Kept) (at : IsKept may k trace M o start w bus gate log) where
+  module _ (w new : WorldValue) (bus after : BusValue) (gate gate_after : Option GateValue) (log log' : Kept)
+      (at : IsKept may k trace M o start w bus gate log) where
     abbrev L : Log
     L = at.0
 
@@ -84,26 +89,44 @@ module _ (may : List RuleValue → EntryValue → Type 0) (k : ℕ) (trace : Boo
       here = with_words gate_after (cycle_part trace (shown M.rules.channels M.width (length M.outputs) part))
 
       part_here : cycle_text trace new.mission gate_after part ≡ part_text here
-      part_here = part_is trace M new.mission gate_after part (driven_mission may M start new after gate_after K more o next)
+      part_here = part_is trace M new.mission gate_after part
+          (driven_mission may M start new after gate_after K more o next)
 
       parts_are : parts_told o trace M K more new.done ≡ parts_told o trace M L histories w.done ++ here ∷ []
       parts_are = ap (λ n. parts_told o trace M K more n) done ∙ d.4 trace
 
-      texts_are : last_told k o trace M K more new.done ≡ keep_last k (keep_last k texts ++ cycle_text trace new.mission gate_after part ∷ [])
+      texts_are : last_told k o trace M K more new.done
+          ≡ keep_last k (keep_last k texts ++ cycle_text trace new.mission gate_after part ∷ [])
       texts_are =
           ap (λ (parts : List Part). keep_last k (map part_text parts)) parts_are
           ∙ ap (keep_last k) (map-append part_text (parts_told o trace M L histories w.done) (here ∷ []))
           ∙ sym (kept_again k texts (part_text here))
           ∙ ap (λ text. keep_last k (keep_last k texts ++ text ∷ [])) (sym part_here)
 
-      pub keep_done : (r : Result (Unit {0}) Halt) → Keeps log log' (cycle_text trace new.mission gate_after part) r → KeepsTo may k trace M o start (suc w.done) new after gate_after log' r
-      keep_done (Ok _) keeps =
-          ((K, more, next, keeps ∙ ap (λ (l : Kept). kept (keep_last l.room (l.parts ++ cycle_text trace new.mission gate_after part ∷ [])) l.room) at.3 ∙ ap (λ (ps : List TextValue). kept ps k) (sym texts_are)), done)
+      pub keep_done : (r : Result (Unit {0}) Halt) → Keeps log log' (cycle_text trace new.mission gate_after part) r →
+          KeepsTo may k trace M o start (suc w.done) new after gate_after log' r
+      keep_done (Ok _) keeps = (
+        (
+          K,
+          more,
+          next,
+          keeps ∙ ap
+              (λ (l : Kept). kept (keep_last l.room (l.parts ++ cycle_text trace new.mission gate_after part ∷ []))
+              l.room) at.3 ∙ ap (λ (ps : List TextValue). kept ps k) (sym texts_are),
+        ),
+        done,
+      )
       keep_done (Err h) keeps =
-          subst (λ (x : Halt). KeptToHalt may k trace M o x start after log') (sym keeps)
-          (K, more, new.done, driven_log may M start new after gate_after K more o next, driven_short may M start new after gate_after K more o next)
+          subst (λ (x : Halt). KeptToHalt may k trace M o x start after log') (sym keeps) (
+            K,
+            more,
+            new.done,
+            driven_log may M start new after gate_after K more o next,
+            driven_short may M start new after gate_after K more o next,
+          )
 
-    pub keep_halted : (h : Halt) → Drives o may M start w L histories (Err (halt_value h)) new after gate_after → KeptToHalt may k trace M o h start after log
+    pub keep_halted : (h : Halt) → Drives o may M start w L histories (Err (halt_value h)) new after gate_after →
+        KeptToHalt may k trace M o h start after log
     keep_halted (halt.Disturbed cycle slot set active) (K, ran, stopped, broken, same) =
         let s : StopValue = stop_value cycle slot set active in
         let at_cycle : s.cycle ≡ w.done = stopped_cycle M K histories o w.done s stopped in
@@ -121,11 +144,13 @@ module _ (may : List RuleValue → EntryValue → Type 0) (k : ℕ) (trace : Boo
   -- ---- what is told
 
   -- the head line, what was kept, and a line
-  kept_is : (log : Kept) (texts : List TextValue) → log ≡ kept texts k → kept_text (head M) log.parts ≡ with_head M texts
+  kept_is : (log : Kept) (texts : List TextValue) → log ≡ kept texts k →
+      kept_text (head M) log.parts ≡ with_head M texts
   kept_is log texts is =
       ap (λ (l : Kept). kept_text (head M) l.parts) is ∙ ap (λ line. line ++ flat_map (λ text. text) texts) (head_is M)
 
-  module _ (w : WorldValue) (bus : BusValue) (gate : Option GateValue) (log : Kept) (out out' : SinkView) (at : IsKept may k trace M o start w bus gate log) (all : w.done ≡ M.cycles) where
+  module _ (w : WorldValue) (bus : BusValue) (gate : Option GateValue) (log : Kept) (out out' : SinkView)
+      (at : IsKept may k trace M o start w bus gate log) (all : w.done ≡ M.cycles) where
     ran_all : CyclesRan o M M.cycles at.0 at.1
     ran_all = subst (λ n. CyclesRan o M n at.0 at.1) all (driven_ran may M start w bus gate at.0 at.1 o at.2)
 
@@ -140,15 +165,31 @@ module _ (may : List RuleValue → EntryValue → Type 0) (k : ℕ) (trace : Boo
         ∙ ap (λ line. with_head M texts ++ line) (last_is M)
         ∙ sym (short_is_whole M at.0 at.1 trace k o ran_all)
 
-    pub last_done : (r : Result (Unit {0}) WriteStop) → Puts out out' (kept_text (head M) log.parts ++ last M) r → RunsLast may k trace M o start bus out out' (run_told_by r)
-    last_done (Ok _) wrote = (at.0, at.1, log_all, ran_all, subst (Appends out.written out'.written) text_is wrote.0, wrote.1)
+    pub last_done : (r : Result (Unit {0}) WriteStop) → Puts out out' (kept_text (head M) log.parts ++ last M) r →
+        RunsLast may k trace M o start bus out out' (run_told_by r)
+    last_done (Ok _) wrote = (
+      at.0,
+      at.1,
+      log_all,
+      ran_all,
+      subst (Appends out.written out'.written) text_is wrote.0,
+      wrote.1,
+    )
     last_done (Err write.Failed) wrote =
         (at.0, at.1, log_all, ran_all, subst (AppendsPart out.written out'.written) text_is wrote.0, wrote.1)
-    last_done (Err write.Memory) wrote =
-        (at.0, at.1, M.cycles, log_all, subst (λ n. RunBroken o M n at.0 at.1) all (driven_short may M start w bus gate at.0 at.1 o at.2), wrote)
+    last_done (Err write.Memory) wrote = (
+      at.0,
+      at.1,
+      M.cycles,
+      log_all,
+      subst (λ n. RunBroken o M n at.0 at.1) all (driven_short may M start w bus gate at.0 at.1 o at.2),
+      wrote,
+    )
 
   module _ (bus : BusValue) (log : Kept) (out out' : SinkView) where
-    stops : (s : StopValue) → KeptToStop may k trace M o s start bus log → WritesLine out out' (kept_text (head M) log.parts ++ stop_text s) → RunsToStopLast may k trace M o s start bus out out'
+    stops : (s : StopValue) → KeptToStop may k trace M o s start bus log →
+        WritesLine out out' (kept_text (head M) log.parts ++ stop_text s) →
+        RunsToStopLast may k trace M o s start bus out out'
     stops s (L, histories, ran, to, broken, is) wrote =
         let texts = last_told k o trace M L histories s.cycle in
         let text : kept_text (head M) log.parts ++ stop_text s ≡ with_head M texts ++ stop_line s =
@@ -162,15 +203,27 @@ module _ (may : List RuleValue → EntryValue → Type 0) (k : ℕ) (trace : Boo
           subst (WritesLine out out') text wrote,
         )
 
-    pub last_halted : (h : Halt) (stop : RunStop) → KeptToHalt may k trace M o h start bus log → TellsKept h (kept_text (head M) log.parts) out out' stop → RunsLast may k trace M o start bus out out' (Err stop)
+    pub last_halted : (h : Halt) (stop : RunStop) → KeptToHalt may k trace M o h start bus log →
+        TellsKept h (kept_text (head M) log.parts) out out' stop →
+        RunsLast may k trace M o start bus out out' (Err stop)
     last_halted (halt.Disturbed cycle slot set active) (Halted (halt.Disturbed cycle' slot' set' active')) at told =
-        subst (λ s. RunsToStopLast may k trace M o s start bus out out') (sym told.0) (stops (stop_value cycle slot set active) at told.1)
+        subst (λ s. RunsToStopLast may k trace M o s start bus out out') (sym told.0)
+        (stops (stop_value cycle slot set active) at told.1)
     last_halted (halt.Disturbed cycle slot set active) WriteFault at told = absurd told
-    last_halted (halt.Disturbed cycle slot set active) (Halted halt.NoMemory) (L, histories, ran, to, broken, is) told = (L, histories, cycle, ran, broken, told)
+    last_halted (halt.Disturbed cycle slot set active) (Halted halt.NoMemory) (L, histories, ran, to, broken, is) told =
+        (L, histories, cycle, ran, broken, told)
     last_halted halt.NoMemory stop (L, histories, n, ran, part) told =
-        subst (λ (x : RunStop). RunsLast may k trace M o start bus out out' (Err x)) (sym told.0) (L, histories, n, ran, part, told.1)
+        subst (λ (x : RunStop). RunsLast may k trace M o start bus out out' (Err x)) (sym told.0)
+        (L, histories, n, ran, part, told.1)
 
   -- memory ran out before the first cycle
-  pub not_begun : (out : SinkView) (gate : Option GateValue) → IsDriven o may M start (first_world M) start gate [] [] → RunsLast may k trace M o start start out out (Err (Halted halt.NoMemory))
-  not_begun out gate first =
-      ([], [], 0, driven_log may M start (first_world M) start gate [] [] o first, driven_short may M start (first_world M) start gate [] [] o first, refl)
+  pub not_begun : (out : SinkView) (gate : Option GateValue) → IsDriven o may M start (first_world M) start gate [] [] →
+      RunsLast may k trace M o start start out out (Err (Halted halt.NoMemory))
+  not_begun out gate first = (
+    [],
+    [],
+    0,
+    driven_log may M start (first_world M) start gate [] [] o first,
+    driven_short may M start (first_world M) start gate [] [] o first,
+    refl,
+  )

@@ -68,13 +68,15 @@ pub record WroteParts (old new : Option (List ℕ)) (parts : List Part) (whole :
 abbrev pub EndsWith : SinkView → SinkView → TextValue → TextValue → Type 0
 EndsWith old new before line =
     (Appends old.written new.written (before ++ line) × (new.faults ≡ old.faults))
-    ⊎ ((front tail : TextValue) × (line ≡ front ++ tail) × (0 < length tail) × Appends old.written new.written (before ++ front)
+    ⊎ ((front tail : TextValue) × (line ≡ front ++ tail) × (0 < length tail)
+    × Appends old.written new.written (before ++ front)
     × Rose old.faults new.faults)
 
 -- ---- what a run does
 
 module _ (may : List RuleValue → EntryValue → Type 0) (trace : Bool) (M : MissionValue) (o : Option ActuatorValue) where
-  -- All cycles ran, none stopped, and the report was written; where it is traced, by full histories whose copies were sent.
+  -- All cycles ran, none stopped, and the report was written; where it is traced, by full histories whose copies were
+  -- sent.
   abbrev pub RunsWhole : BusValue → BusValue → SinkView → SinkView → Type 0
   RunsWhole bus bus' out out' =
       (L : Log) × (histories : Histories) × HasCarried may M bus bus' L × CyclesRan o M M.cycles L histories
@@ -83,20 +85,22 @@ module _ (may : List RuleValue → EntryValue → Type 0) (trace : Bool) (M : Mi
   -- The cycles before the stop ran, and its own up to the end of its slot. The report ends with the stop's line.
   abbrev pub RunsToStop : StopValue → BusValue → BusValue → SinkView → SinkView → Type 0
   RunsToStop stop bus bus' out out' =
-      (L : Log) × (histories : Histories) × (before : TextValue) × HasCarried may M bus bus' L × RunStopped o M stop.cycle stop L histories
+      (L : Log) × (histories : Histories) × (before : TextValue) × HasCarried may M bus bus' L
+      × RunStopped o M stop.cycle stop L histories
       × (told_text o trace M L (with_unfinished (M.cycles - stop.cycle) histories) ≡ before ++ stop_line stop)
       × EndsWith out out' before (stop_line stop)
 
-  -- The sink failed in the part after the first `whole` ones: so many cycles ran as have a part that was begun, each with its
-  -- exchange, which comes before its part.
+  -- The sink failed in the part after the first `whole` ones: so many cycles ran as have a part that was begun, each
+  -- with its exchange, which comes before its part.
   abbrev pub RunsToWriteFault : BusValue → BusValue → SinkView → SinkView → Type 0
   RunsToWriteFault bus bus' out out' =
-      (L : Log) × (histories : Histories) × (whole : ℕ) × HasCarried may M bus bus' L × CyclesRan o M (min whole M.cycles) L histories
+      (L : Log) × (histories : Histories) × (whole : ℕ) × HasCarried may M bus bus' L
+      × CyclesRan o M (min whole M.cycles) L histories
       × WroteParts out.written out'.written (parts_of_whole o trace M L histories (min whole M.cycles)) whole
       × Rose out.faults out'.faults
 
-  -- Memory ran out: some cycles ran, and a front of the next one's entries was carried, none after a stop; a front of the text was
-  -- written.
+  -- Memory ran out: some cycles ran, and a front of the next one's entries was carried, none after a stop; a front of
+  -- the text was written.
   abbrev pub RunsOutOfMemory : BusValue → BusValue → SinkView → SinkView → Type 0
   RunsOutOfMemory bus bus' out out' =
       (L : Log) × (histories : Histories) × (n : ℕ) × HasCarried may M bus bus' L × RunBroken o M n L histories
@@ -106,11 +110,13 @@ module _ (may : List RuleValue → EntryValue → Type 0) (trace : Bool) (M : Mi
   -- What running the mission does, by its answer.
   abbrev pub Runs : BusValue → BusValue → SinkView → SinkView → Result (Unit {0}) RunStop → Type 0
   Runs bus bus' out out' (Ok _) = RunsWhole bus bus' out out'
-  Runs bus bus' out out' (Err (Halted (halt.Disturbed cycle slot set active))) = RunsToStop (stop_value cycle slot set active) bus bus' out out'
+  Runs bus bus' out out' (Err (Halted (halt.Disturbed cycle slot set active))) =
+      RunsToStop (stop_value cycle slot set active) bus bus' out out'
   Runs bus bus' out out' (Err WriteFault) = RunsToWriteFault bus bus' out out'
   Runs bus bus' out out' (Err (Halted halt.NoMemory)) = RunsOutOfMemory bus bus' out out'
 
-  -- Between two cycles of a run that began with this bus and this sink: the head line and the parts of the cycles were written.
+  -- Between two cycles of a run that began with this bus and this sink: the head line and the parts of the cycles were
+  -- written.
   abbrev pub IsAt : BusValue → SinkView → WorldValue → BusValue → Option GateValue → SinkView → Type 0
   IsAt start begun w bus gate out =
       (L : Log) × (histories : Histories) × IsDriven o may M start w bus gate L histories
@@ -118,19 +124,22 @@ module _ (may : List RuleValue → EntryValue → Type 0) (trace : Bool) (M : Mi
       × (out.faults ≡ begun.faults)
 
   -- what goes on with the run until n cycles ran does, by its answer
-  abbrev pub GoesTo : BusValue → SinkView → ℕ → WorldValue → BusValue → Option GateValue → SinkView → Result (Unit {0}) RunStop → Type 0
+  abbrev pub GoesTo : BusValue → SinkView → ℕ → WorldValue → BusValue → Option GateValue → SinkView →
+      Result (Unit {0}) RunStop → Type 0
   GoesTo start begun n w bus gate out (Ok _) = IsAt start begun w bus gate out × (w.done ≡ n)
   GoesTo start begun n w bus gate out (Err stop) = Runs start bus begun out (Err stop)
 
 -- what telling a stop does: its line was written, or there was no memory for it
 abbrev pub TellsStop : StopValue → SinkView → SinkView → RunStop → Type 0
-TellsStop stop old new (Halted (halt.Disturbed cycle slot set active)) = (stop_value cycle slot set active ≡ stop) × WritesLine old new (stop_text stop)
+TellsStop stop old new (Halted (halt.Disturbed cycle slot set active)) = (stop_value cycle slot set active ≡ stop)
+    × WritesLine old new (stop_text stop)
 TellsStop stop old new WriteFault = ⊥
 TellsStop stop old new (Halted halt.NoMemory) = new ≡ old
 
 -- what telling a halt does
 abbrev pub TellsHalt : Halt → SinkView → SinkView → RunStop → Type 0
-TellsHalt (halt.Disturbed cycle slot set active) old new stop = TellsStop (stop_value cycle slot set active) old new stop
+TellsHalt (halt.Disturbed cycle slot set active) old new stop =
+    TellsStop (stop_value cycle slot set active) old new stop
 TellsHalt halt.NoMemory old new stop = (stop ≡ (Halted halt.NoMemory)) × (new ≡ old)
 
 -- how a run ends where a part was not written

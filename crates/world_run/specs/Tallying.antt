@@ -38,12 +38,15 @@ pub record IsTallyOf (M : MissionValue) (past : Past) (t : Tally) : Type 0 where
 
 -- the five lines, by what was kept
 unfoldable pub summary_of : ℕ → ℕ → ℕ → Tally → TextValue
-summary_of number outputs frames t = part_text (summary_part number t.joins t.removals frames (shown_votes outputs t.last))
+summary_of number outputs frames t =
+    part_text (summary_part number t.joins t.removals frames (shown_votes outputs t.last))
 
 -- between two cycles of a run that began with this bus, with what was kept of its cycles
-abbrev pub IsTallied : (List RuleValue → EntryValue → Type 0) → MissionValue → BusValue → WorldValue → BusValue → Tally → Type 0
+abbrev pub IsTallied : (List RuleValue → EntryValue → Type 0) → MissionValue → BusValue → WorldValue → BusValue →
+    Tally → Type 0
 IsTallied may M start w bus tally =
-    (L : Log) × (histories : Histories) × IsBetween may M start w bus L L histories × IsTallyOf M (cycles_before M L w.done) tally
+    (L : Log) × (histories : Histories) × IsBetween may M start w bus L L histories
+    × IsTallyOf M (cycles_before M L w.done) tally
 
 module _ (may : List RuleValue → EntryValue → Type 0) (number : ℕ) (M : MissionValue) where
   -- the cycles before the stop ran, and its own up to the end of its slot; its line stands alone
@@ -52,20 +55,23 @@ module _ (may : List RuleValue → EntryValue → Type 0) (number : ℕ) (M : Mi
       (L : Log) × (histories : Histories) × HasCarried may M bus bus' L × HasRunToStop M stop.cycle stop L histories
       × WritesLine out out' (stop_line stop)
 
-  -- What running the mission for its summary does, by its answer: the five lines are one part, so where the sink failed all
-  -- cycles ran.
+  -- What running the mission for its summary does, by its answer: the five lines are one part, so where the sink failed
+  -- all cycles ran.
   abbrev pub Summarizes : BusValue → BusValue → SinkView → SinkView → Result (Unit {0}) RunStop → Type 0
   Summarizes bus bus' out out' (Ok _) =
       (L : Log) × (histories : Histories) × HasCarried may M bus bus' L × HasRunCycles M M.cycles L histories
       × Appends out.written out'.written (summary number M L) × (out'.faults ≡ out.faults)
-  Summarizes bus bus' out out' (Err (Halted (halt.Disturbed cycle slot set active))) = SummarizesToStop (stop_value cycle slot set active) bus bus' out out'
+  Summarizes bus bus' out out' (Err (Halted (halt.Disturbed cycle slot set active))) =
+      SummarizesToStop (stop_value cycle slot set active) bus bus' out out'
   Summarizes bus bus' out out' (Err WriteFault) =
       (L : Log) × (histories : Histories) × HasCarried may M bus bus' L × HasRunCycles M M.cycles L histories
       × AppendsPart out.written out'.written (summary number M L) × Rose out.faults out'.faults
   Summarizes bus bus' out out' (Err (Halted halt.NoMemory)) =
-      (L : Log) × (histories : Histories) × (n : ℕ) × HasCarried may M bus bus' L × HasRunPart M n L histories × (out' ≡ out)
+      (L : Log) × (histories : Histories) × (n : ℕ) × HasCarried may M bus bus' L × HasRunPart M n L histories
+      × (out' ≡ out)
 
   -- what goes on with the run until n cycles ran does, by its answer
-  abbrev pub TalliesTo : BusValue → SinkView → ℕ → WorldValue → BusValue → SinkView → Tally → Result (Unit {0}) RunStop → Type 0
+  abbrev pub TalliesTo : BusValue → SinkView → ℕ → WorldValue → BusValue → SinkView → Tally →
+      Result (Unit {0}) RunStop → Type 0
   TalliesTo start begun n w bus out tally (Ok _) = IsTallied may M start w bus tally × (w.done ≡ n) × (out ≡ begun)
   TalliesTo start begun n w bus out tally (Err stop) = Summarizes start bus begun out (Err stop)

@@ -58,7 +58,8 @@ fn exchange_with<B: Bus, Q: Limit>(
     gate: &mut OutputGate,
     part: &CycleRecord,
 ) -> Result<(), Halt>
-    requires { (s : SettledValue) × (world.now.settled ≡ Some s) × MayExchange world.now.mission.rules.version (length gate.old.words) part.now s }
+    requires { (s : SettledValue) × (world.now.settled ≡ Some s)
+        × MayExchange world.now.mission.rules.version (length gate.old.words) part.now s }
     ensures { Exchanged B.may world.now.mission.rules.version part.now world.now.settled (B.seen bus.old)
         (B.seen bus.new) (Some gate.old) (Some gate.new) (with_halt_value result) }
 {
@@ -103,7 +104,8 @@ fn exchanged<B: Bus, Q: Limit>(
 ) -> Result<CycleRecord, Halt>
     requires { (g : GateValue) → actuator.old ≡ Some g → (s : SettledValue) × (world.now.settled ≡ Some s) ×
         MayExchange world.now.mission.rules.version (length g.words) part s }
-    ensures { (ended : Result (Unit {0}) HaltValue) × Exchanged B.may world.now.mission.rules.version part world.now.settled
+    ensures { (ended : Result (Unit {0}) HaltValue)
+        × Exchanged B.may world.now.mission.rules.version part world.now.settled
         (B.seen bus.old) (B.seen bus.new) actuator.old actuator.new ended
         × (with_halt_value result ≡ with_part part ended) }
 {
@@ -125,7 +127,8 @@ pub fn pass<B: Bus, G: Gate, C: Calls + Sync, R: Threads + Wait + Sync, Q: Limit
     actuator: &mut Option<OutputGate>,
 ) -> Result<CycleRecord, Halt>
     requires below { world.old.done < world.old.mission.cycles }
-    requires driven { (o : Option ActuatorValue) × (M : MissionValue) × (start : BusValue) × (L : Log) × (histories : Histories) ×
+    requires driven { (o : Option ActuatorValue) × (M : MissionValue) × (start : BusValue) × (L : Log)
+        × (histories : Histories) ×
         IsDriven o B.may M start world.old (B.seen bus.old) actuator.old L histories }
     ensures { (o : Option ActuatorValue) (M : MissionValue) (start : BusValue) (L : Log) (histories : Histories) →
         IsDriven o B.may M start world.old (B.seen bus.old) actuator.old L histories →

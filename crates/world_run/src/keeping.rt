@@ -172,9 +172,9 @@ fn keep_cycles<B: Bus, G: Gate, C: Calls + Sync, R: Threads + Wait + Sync, Q: Li
     Ok(())
 }
 
-/// Runs the world's mission from its start over a bus that has the mission's rules, and keeps the parts of the last cycles, at
-/// most `last` of them. When the run has ended, also by a stop, it writes the head line, these parts, and the last line or the
-/// stop's line, one after the other. All memory is taken before the first of them is written.
+/// Runs the world's mission from its start over a bus that has the mission's rules, and keeps the parts of the last
+/// cycles, at most `last` of them. When the run has ended, also by a stop, it writes the head line, these parts, and
+/// the last line or the stop's line, one after the other. All memory is taken before the first of them is written.
 pub fn run_last<B: Bus, G: Gate, C: Calls + Sync, R: Threads + Wait + Sync, K: Sink, Q: Limit>(
     rt: &R,
     alloc: Global,

@@ -103,8 +103,8 @@ fn run_cycles<B: Bus, G: Gate, C: Calls + Sync, R: Threads + Wait + Sync, K: Sin
 }
 
 /// Runs the world's mission from its start over a bus that has the mission's rules, and writes the report, or with
-/// `trace` the report with the trace lines: part by part, each cycle's when the cycle is over and its output slot, if the
-/// mission has an actuator. The first stop ends it, and so does a part that is not written.
+/// `trace` the report with the trace lines: part by part, each cycle's when the cycle is over and its output slot, if
+/// the mission has an actuator. The first stop ends it, and so does a part that is not written.
 pub fn run<B: Bus, G: Gate, C: Calls + Sync, R: Threads + Wait + Sync, K: Sink, Q: Limit>(
     rt: &R,
     alloc: Global,

@@ -4,7 +4,8 @@ ghost use Rattle.world_run.specs.Tallying.{first_votes};
 
 use guards_base::{CycleRecord, Lines};
 
-/// How many channels joined and were removed, and the votes of the lowest channel that ran at the end of the last cycle.
+/// How many channels joined and were removed, and the votes of the lowest channel that ran at the end of the last
+/// cycle.
 #[derive(Clone, Copy, Debug)]
 pub struct Tally {
     pub joins: u32,

@@ -30,7 +30,8 @@ single_set (suc (suc (suc (suc (suc (suc zero)))))) h = refl
 single_set (suc (suc (suc (suc (suc (suc (suc t))))))) h = absurd (omega (arith, h))
 
 -- without targets the receiver is of no account
-pub for_all : (M : MissionValue) (received : Received) (slot : Slot) (to other : ℕ) (state : StateValue) → has_targets slot ≡ false →
+pub for_all : (M : MissionValue) (received : Received) (slot : Slot) (to other : ℕ) (state : StateValue) →
+    has_targets slot ≡ false →
     body_of M received slot to state ≡ body_of M received slot other state
 for_all M received Request to other state h = refl
 for_all M received Round1 to other state h = refl
@@ -52,67 +53,83 @@ module _ (M : MissionValue) (c : ℕ) (slot : Slot) (received : Received) (node 
 
   none_sent : (xs : List ℕ) → ((to : ℕ) → owes to ≡ None) → [] ≡ sends xs
   none_sent [] h = refl
-  none_sent (x ∷ xs) h = none_sent xs h ∙ ap (λ (o : Option BodyValue). cons_option (option_map (send_by c slot node x) o) (sends xs)) (sym (h x))
+  none_sent (x ∷ xs) h = none_sent xs h
+      ∙ ap (λ (o : Option BodyValue). cons_option (option_map (send_by c slot node x) o) (sends xs)) (sym (h x))
 
-  body_sent : (body : BodyValue) (xs : List ℕ) → ((to : ℕ) → owes to ≡ Some body) → map (λ to. send_by c slot node to body) xs ≡ sends xs
+  body_sent : (body : BodyValue) (xs : List ℕ) → ((to : ℕ) → owes to ≡ Some body) →
+      map (λ to. send_by c slot node to body) xs ≡ sends xs
   body_sent body [] h = refl
   body_sent body (x ∷ xs) h =
       ap (λ (l : List SendValue). send_by c slot node x body ∷ l) (body_sent body xs h)
       ∙ ap (λ (o : Option BodyValue). cons_option (option_map (send_by c slot node x) o) (sends xs)) (sym (h x))
 
-  by_body : (rs : List ℕ) (o : Option BodyValue) → ((to : ℕ) → owes to ≡ o) → sends_by c slot rs (framed node c o) ≡ sends_of M c slot rs received node
+  by_body : (rs : List ℕ) (o : Option BodyValue) → ((to : ℕ) → owes to ≡ o) →
+      sends_by c slot rs (framed node c o) ≡ sends_of M c slot rs received node
   by_body rs None h = none_sent (without rs (node.channel ∷ [])) h
   by_body rs (Some body) h = body_sent body (without rs (node.channel ∷ [])) h
 
   -- without targets each receiver gets the same frame
-  pub sends_alike : (rs : List ℕ) (t : ℕ) → has_targets slot ≡ false → sends_by c slot rs (framed node c (owes t)) ≡ sends_of M c slot rs received node
+  pub sends_alike : (rs : List ℕ) (t : ℕ) → has_targets slot ≡ false →
+      sends_by c slot rs (framed node c (owes t)) ≡ sends_of M c slot rs received node
   sends_alike rs t untargeted = by_body rs (owes t) (λ to. for_all M received slot to t node.state untargeted)
 
   none_one : (t : ℕ) (b : Bool) → owes t ≡ None → [] ≡ sends (cond b (t ∷ []) [])
   none_one t true h = ap (λ (o : Option BodyValue). cons_option (option_map (send_by c slot node t) o) []) (sym h)
   none_one t false h = refl
 
-  body_one : (t : ℕ) (body : BodyValue) (b : Bool) → owes t ≡ Some body → map (λ to. send_by c slot node to body) (cond b (t ∷ []) []) ≡ sends (cond b (t ∷ []) [])
+  body_one : (t : ℕ) (body : BodyValue) (b : Bool) → owes t ≡ Some body →
+      map (λ to. send_by c slot node to body) (cond b (t ∷ []) []) ≡ sends (cond b (t ∷ []) [])
   body_one t body true h = ap (λ (o : Option BodyValue). cons_option (option_map (send_by c slot node t) o) []) (sym h)
   body_one t body false h = refl
 
-  by_target : (t : ℕ) (o : Option BodyValue) → owes t ≡ o → sends_by c slot (t ∷ []) (framed node c o) ≡ sends_of M c slot (t ∷ []) received node
+  by_target : (t : ℕ) (o : Option BodyValue) → owes t ≡ o →
+      sends_by c slot (t ∷ []) (framed node c o) ≡ sends_of M c slot (t ∷ []) received node
   by_target t None h = none_one t (not (has (node.channel ∷ []) t)) h
   by_target t (Some body) h = body_one t body (not (has (node.channel ∷ []) t)) h
 
   -- a target gets its frame
-  pub sends_to_target : (t : ℕ) → sends_by c slot (t ∷ []) (framed node c (owes t)) ≡ sends_of M c slot (t ∷ []) received node
+  pub sends_to_target : (t : ℕ) →
+      sends_by c slot (t ∷ []) (framed node c (owes t)) ≡ sends_of M c slot (t ∷ []) received node
   sends_to_target t = by_target t (owes t) refl
 
   -- one receiver more
-  pub sends_cons : (t : ℕ) (rs : List ℕ) → sends_of M c slot (t ∷ []) received node ++ sends_of M c slot rs received node ≡ sends_of M c slot (t ∷ rs) received node
+  pub sends_cons : (t : ℕ) (rs : List ℕ) →
+      sends_of M c slot (t ∷ []) received node ++ sends_of M c slot rs received node
+      ≡ sends_of M c slot (t ∷ rs) received node
   sends_cons t rs =
-      sym (filter_map-append (send_to M c slot received node) (without (t ∷ []) (node.channel ∷ [])) (without rs (node.channel ∷ [])))
+      sym (filter_map-append (send_to M c slot received node) (without (t ∷ []) (node.channel ∷ []))
+      (without rs (node.channel ∷ [])))
       ∙ ap sends (sym (filter-append (λ q. not (has (node.channel ∷ []) q)) (t ∷ []) rs))
 
   -- the targets among the channels from one on, which is a target
   pub targets_list : (set one : ChannelSet) (t : ℕ) (ts all : List ℕ) → all ≡ t ∷ ts → has set t ≡ true → one ≡ t ∷ [] →
-      sends_by c slot one (framed node c (owes t)) ++ sends_of M c slot (filter (has set) ts) received node ≡ sends_of M c slot (filter (has set) all) received node
+      sends_by c slot one (framed node c (owes t)) ++ sends_of M c slot (filter (has set) ts) received node
+      ≡ sends_of M c slot (filter (has set) all) received node
   targets_list set one t ts all is there alone =
       let rest = sends_of M c slot (filter (has set) ts) received node in
       ap (λ (l : List ℕ). sends_by c slot l (framed node c (owes t)) ++ rest) alone
       ∙ ap (λ (l : List SendValue). l ++ rest) (sends_to_target t)
       ∙ sends_cons t (filter (has set) ts)
-      ∙ ap (λ (b : Bool). sends_of M c slot (cond b (t ∷ filter (has set) ts) (filter (has set) ts)) received node) (sym there)
+      ∙ ap (λ (b : Bool). sends_of M c slot (cond b (t ∷ filter (has set) ts) (filter (has set) ts)) received node)
+      (sym there)
       ∙ ap (λ (l : List ℕ). sends_of M c slot (filter (has set) l) received node) (sym is)
 
   pub all_targets : (set all : ChannelSet) → set ≡ channels_where (has set) → all ≡ every_channel →
       sends_of M c slot (filter (has set) all) received node ≡ sends_of M c slot set received node
   unfolding channels_where
   all_targets set all is every =
-      ap (λ (l : List ℕ). sends_of M c slot (filter (has set) l) received node) every ∙ ap (λ (l : List ℕ). sends_of M c slot l received node) (sym is)
+      ap (λ (l : List ℕ). sends_of M c slot (filter (has set) l) received node) every
+      ∙ ap (λ (l : List ℕ). sends_of M c slot l received node) (sym is)
 
   -- the frame that is owed has a spelling
-  pub owed_fits : (to cyc : ℕ) (place : Slot) (frame : Option FrameValue) → ((to : ℕ) (body : BodyValue) → owes to ≡ Some body → in_range (frame_by c node body) ≡ true) →
-      cyc ≡ c → place ≡ slot → frame ≡ framed node cyc (body_of M received place to node.state) → IfSome frame (λ f. IsTrue (in_range f))
+  pub owed_fits : (to cyc : ℕ) (place : Slot) (frame : Option FrameValue) →
+      ((to : ℕ) (body : BodyValue) → owes to ≡ Some body → in_range (frame_by c node body) ≡ true) →
+      cyc ≡ c → place ≡ slot → frame ≡ framed node cyc (body_of M received place to node.state) →
+      IfSome frame (λ f. IsTrue (in_range f))
   owed_fits to cyc place frame fits now here is =
       subst (λ (f : Option FrameValue). IfSome f (λ f. IsTrue (in_range f)))
-      (sym (is ∙ ap (λ (k : ℕ). framed node k (body_of M received place to node.state)) now ∙ ap (λ (s : Slot). framed node c (body_of M received s to node.state)) here))
+      (sym (is ∙ ap (λ (k : ℕ). framed node k (body_of M received place to node.state)) now
+      ∙ ap (λ (s : Slot). framed node c (body_of M received s to node.state)) here))
       (by_owed (owes to) refl)
     where
       by_owed : (o : Option BodyValue) → owes to ≡ o → IfSome (framed node c o) (λ f. IsTrue (in_range f))
@@ -136,12 +153,16 @@ sweep_outside None (Some w) = nothing_owed
 sweep_outside (Some s) None = nothing_owed
 sweep_outside (Some s) (Some w) = by_target (has s.transfer.targets 7)
   where
-    by_target : (b : Bool) → HasNoTarget (cond b (Some (sweep_body (record { target = 7; start = s.transfer.start; copies = w.copies }))) None)
+    by_target : (b : Bool) → HasNoTarget
+        (cond b (Some (sweep_body (record { target = 7; start = s.transfer.start; copies = w.copies }))) None)
     by_target true version q body h k =
-        differ (sym (subst (λ (x : BodyValue). body_in_range version q x ≡ true) (sym (same_body (sweep_body (record { target = 7; start = s.transfer.start; copies = w.copies })) body h)) k))
+        differ (sym (subst (λ (x : BodyValue). body_in_range version q x ≡ true)
+        (sym (same_body (sweep_body (record { target = 7; start = s.transfer.start; copies = w.copies })) body h))
+        k))
     by_target false version q body h k = absurd cc
 
-final_outside : (rules : RulesValue) (r : RunningValue) (o : Option ClosedValue) → HasNoTarget (option_and_then (final_to rules 7 r) o)
+final_outside : (rules : RulesValue) (r : RunningValue) (o : Option ClosedValue) →
+    HasNoTarget (option_and_then (final_to rules 7 r) o)
 final_outside rules r None = nothing_owed
 final_outside rules r (Some closed) = by_target (has closed.joined 7)
   where
@@ -154,10 +175,12 @@ final_outside rules r (Some closed) = by_target (has closed.joined 7)
     })
 
     by_target : (b : Bool) → HasNoTarget (cond b (Some last) None)
-    by_target true version q body h k = differ (sym (subst (λ (x : BodyValue). body_in_range version q x ≡ true) (sym (same_body last body h)) k))
+    by_target true version q body h k =
+        differ (sym (subst (λ (x : BodyValue). body_in_range version q x ≡ true) (sym (same_body last body h)) k))
     by_target false version q body h k = absurd cc
 
-outside : (M : MissionValue) (received : Received) (slot : Slot) (state : StateValue) → has_targets slot ≡ true → HasNoTarget (body_of M received slot 7 state)
+outside : (M : MissionValue) (received : Received) (slot : Slot) (state : StateValue) → has_targets slot ≡ true →
+    HasNoTarget (body_of M received slot 7 state)
 outside M received Request state h = absurd cc
 outside M received Round1 state h = absurd cc
 outside M received Round2 state h = absurd cc
@@ -176,7 +199,8 @@ outside M received Switch state h = absurd cc
 outside M received Output state h = absurd cc
 
 -- where frames have targets, what was received is of no account
-same_received : (M : MissionValue) (received other : Received) (slot : Slot) (to : ℕ) (state : StateValue) → has_targets slot ≡ true →
+same_received : (M : MissionValue) (received other : Received) (slot : Slot) (to : ℕ) (state : StateValue) →
+    has_targets slot ≡ true →
     body_of M received slot to state ≡ body_of M other slot to state
 same_received M received other Request to state h = absurd cc
 same_received M received other Round1 to state h = absurd cc
@@ -189,20 +213,27 @@ same_received M received other Final to state h = refl
 same_received M received other Switch to state h = absurd cc
 same_received M received other Output to state h = absurd cc
 
-ranged : (c : ℕ) (node : NodeValue) (body : BodyValue) → in_range (frame_by c node body) ≡ true → body_in_range node.rules.version node.channel body ≡ true
+ranged : (c : ℕ) (node : NodeValue) (body : BodyValue) → in_range (frame_by c node body) ≡ true →
+    body_in_range node.rules.version node.channel body ≡ true
 ranged c node body h =
-    let outer = both (between 1 2 node.rules.version) (is_channel node.channel && (fits_u32 c && body_in_range node.rules.version node.channel body)) h in
-    let inner = both (is_channel node.channel) (fits_u32 c && body_in_range node.rules.version node.channel body) outer.1 in
+    let outer = both (between 1 2 node.rules.version)
+    (is_channel node.channel && (fits_u32 c && body_in_range node.rules.version node.channel body)) h in
+    let inner = both (is_channel node.channel) (fits_u32 c && body_in_range node.rules.version node.channel body)
+    outer.1 in
     (both (fits_u32 c) (body_in_range node.rules.version node.channel body) inner.1).1
 
 -- where frames have targets, nothing goes to the switchboard
-pub none_outside : (M : MissionValue) (c : ℕ) (slot : Slot) (received other : Received) (node : NodeValue) → has_targets slot ≡ true →
-    ((to : ℕ) (body : BodyValue) → body_of M other slot to node.state ≡ Some body → in_range (frame_by c node body) ≡ true) →
+pub none_outside : (M : MissionValue) (c : ℕ) (slot : Slot) (received other : Received) (node : NodeValue) →
+    has_targets slot ≡ true →
+    ((to : ℕ) (body : BodyValue) → body_of M other slot to node.state ≡ Some body →
+    in_range (frame_by c node body) ≡ true) →
     [] ≡ sends_of M c slot (7 ∷ []) received node
 none_outside M c slot received other node targeted fits = by_owed (body_of M received slot 7 node.state) refl
   where
-    by_owed : (o : Option BodyValue) → body_of M received slot 7 node.state ≡ o → [] ≡ sends_of M c slot (7 ∷ []) received node
-    by_owed None h = ap (λ (o : Option FrameValue). sends_by c slot (7 ∷ []) o) (ap (framed node c) (sym h)) ∙ sends_to_target M c slot received node 7
+    by_owed : (o : Option BodyValue) → body_of M received slot 7 node.state ≡ o →
+        [] ≡ sends_of M c slot (7 ∷ []) received node
+    by_owed None h = ap (λ (o : Option FrameValue). sends_by c slot (7 ∷ []) o) (ap (framed node c) (sym h))
+        ∙ sends_to_target M c slot received node 7
     by_owed (Some body) h =
         absurd (outside M received slot node.state targeted node.rules.version node.channel body h
         (ranged c node body (fits 7 body (sym (same_received M received other slot 7 node.state targeted) ∙ h))))

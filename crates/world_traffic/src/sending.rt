@@ -72,7 +72,8 @@ fn send_frame<B: Bus>(
     ensures script { (B.seen bus.new).script ≡ (B.seen bus.old).script }
     ensures sent { OnOk result (SendsSlot B.may (B.seen bus.old).script (B.seen bus.old).log (B.seen bus.new).log
         (sends_by traffic.old.cycle traffic.old.slot (receiver_numbers to) frame) traffic.old traffic.new) }
-    ensures some { OnErr result (SendsFirstOfSlot B.may (B.seen bus.old).script (B.seen bus.old).log (B.seen bus.new).log
+    ensures some { OnErr result
+        (SendsFirstOfSlot B.may (B.seen bus.old).script (B.seen bus.old).log (B.seen bus.new).log
         (sends_by traffic.old.cycle traffic.old.slot (receiver_numbers to) frame) traffic.old traffic.new) }
 {
     match frame {
@@ -94,17 +95,20 @@ fn send_owed<B: Bus>(
     target: Chan,
     to: Receivers,
 ) -> Result<(), AllocError>
-    requires { (received : AllReceived) × StandsForReceived received node.now × MaySend mission.now traffic.old.cycle traffic.old.slot received node.now }
+    requires { (received : AllReceived) × StandsForReceived received node.now
+        × MaySend mission.now traffic.old.cycle traffic.old.slot received node.now }
     ensures script { (B.seen bus.new).script ≡ (B.seen bus.old).script }
     ensures sent { (received : AllReceived) → StandsForReceived received node.now →
         OnOk result (SendsSlot B.may (B.seen bus.old).script (B.seen bus.old).log (B.seen bus.new).log
         (sends_by traffic.old.cycle traffic.old.slot (receiver_numbers to)
-        (framed node.now traffic.old.cycle (body_of mission.now (received node.now.channel) traffic.old.slot target node.now.state)))
+        (framed node.now traffic.old.cycle
+        (body_of mission.now (received node.now.channel) traffic.old.slot target node.now.state)))
         traffic.old traffic.new) }
     ensures some { (received : AllReceived) → StandsForReceived received node.now →
         OnErr result (SendsFirstOfSlot B.may (B.seen bus.old).script (B.seen bus.old).log (B.seen bus.new).log
         (sends_by traffic.old.cycle traffic.old.slot (receiver_numbers to)
-        (framed node.now traffic.old.cycle (body_of mission.now (received node.now.channel) traffic.old.slot target node.now.state)))
+        (framed node.now traffic.old.cycle
+        (body_of mission.now (received node.now.channel) traffic.old.slot target node.now.state)))
         traffic.old traffic.new) }
 {
     let frame = owed(
@@ -139,15 +143,18 @@ fn send_targets<B: Bus>(
     targets: ChanSet,
     channels: &[Chan],
 ) -> Result<(), AllocError>
-    requires { (received : AllReceived) × StandsForReceived received node.now × MaySend mission.now traffic.old.cycle traffic.old.slot received node.now }
+    requires { (received : AllReceived) × StandsForReceived received node.now
+        × MaySend mission.now traffic.old.cycle traffic.old.slot received node.now }
     ensures script { (B.seen bus.new).script ≡ (B.seen bus.old).script }
     ensures sent { (received : AllReceived) → StandsForReceived received node.now →
         OnOk result (SendsSlot B.may (B.seen bus.old).script (B.seen bus.old).log (B.seen bus.new).log
-        (sends_of mission.now traffic.old.cycle traffic.old.slot (filter (has targets) channels.now) (received node.now.channel) node.now)
+        (sends_of mission.now traffic.old.cycle traffic.old.slot (filter (has targets) channels.now)
+        (received node.now.channel) node.now)
         traffic.old traffic.new) }
     ensures some { (received : AllReceived) → StandsForReceived received node.now →
         OnErr result (SendsFirstOfSlot B.may (B.seen bus.old).script (B.seen bus.old).log (B.seen bus.new).log
-        (sends_of mission.now traffic.old.cycle traffic.old.slot (filter (has targets) channels.now) (received node.now.channel) node.now)
+        (sends_of mission.now traffic.old.cycle traffic.old.slot (filter (has targets) channels.now)
+        (received node.now.channel) node.now)
         traffic.old traffic.new) }
 {
     let Some((target, rest)) = channels.split_first() else {
@@ -179,15 +186,18 @@ fn send_node<B: Bus>(
     mission: &Mission,
     to: Receivers,
 ) -> Result<(), AllocError>
-    requires { (received : AllReceived) × StandsForReceived received node.now × MaySend mission.now traffic.old.cycle traffic.old.slot received node.now }
+    requires { (received : AllReceived) × StandsForReceived received node.now
+        × MaySend mission.now traffic.old.cycle traffic.old.slot received node.now }
     ensures script { (B.seen bus.new).script ≡ (B.seen bus.old).script }
     ensures sent { (received : AllReceived) → StandsForReceived received node.now →
         OnOk result (SendsSlot B.may (B.seen bus.old).script (B.seen bus.old).log (B.seen bus.new).log
-        (sends_of mission.now traffic.old.cycle traffic.old.slot (receiver_numbers to) (received node.now.channel) node.now)
+        (sends_of mission.now traffic.old.cycle traffic.old.slot (receiver_numbers to) (received node.now.channel)
+        node.now)
         traffic.old traffic.new) }
     ensures some { (received : AllReceived) → StandsForReceived received node.now →
         OnErr result (SendsFirstOfSlot B.may (B.seen bus.old).script (B.seen bus.old).log (B.seen bus.new).log
-        (sends_of mission.now traffic.old.cycle traffic.old.slot (receiver_numbers to) (received node.now.channel) node.now)
+        (sends_of mission.now traffic.old.cycle traffic.old.slot (receiver_numbers to) (received node.now.channel)
+        node.now)
         traffic.old traffic.new) }
 {
     if has_targets(traffic.slot()) {
@@ -227,14 +237,17 @@ fn send_each<B: Bus>(
     mission: &Mission,
     to: &Receivers,
 ) -> Result<(), AllocError>
-    requires { (received : AllReceived) × All (StandsForReceived received) nodes.now × All (MaySend mission.now traffic.old.cycle traffic.old.slot received) nodes.now }
+    requires { (received : AllReceived) × All (StandsForReceived received) nodes.now
+        × All (MaySend mission.now traffic.old.cycle traffic.old.slot received) nodes.now }
     ensures script { (B.seen bus.new).script ≡ (B.seen bus.old).script }
     ensures sent { (received : AllReceived) → All (StandsForReceived received) nodes.now →
         OnOk result (SendsSlot B.may (B.seen bus.old).script (B.seen bus.old).log (B.seen bus.new).log
-        (all_sends mission.now traffic.old.cycle traffic.old.slot (receiver_numbers to.now) received nodes.now) traffic.old traffic.new) }
+        (all_sends mission.now traffic.old.cycle traffic.old.slot (receiver_numbers to.now) received nodes.now)
+        traffic.old traffic.new) }
     ensures some { (received : AllReceived) → All (StandsForReceived received) nodes.now →
         OnErr result (SendsFirstOfSlot B.may (B.seen bus.old).script (B.seen bus.old).log (B.seen bus.new).log
-        (all_sends mission.now traffic.old.cycle traffic.old.slot (receiver_numbers to.now) received nodes.now) traffic.old traffic.new) }
+        (all_sends mission.now traffic.old.cycle traffic.old.slot (receiver_numbers to.now) received nodes.now)
+        traffic.old traffic.new) }
 {
     let Some((node, rest)) = nodes.split_first() else {
         return Ok(());
@@ -248,9 +261,9 @@ fn send_each<B: Bus>(
     }
 }
 
-/// Sends what each node owes in the slot of the traffic, in their order: its frame to each receiver, and in the sweep and the
-/// final slot to each target the frame for it. The traffic grows by what was carried, and for want of memory by the first few
-/// of these entries.
+/// Sends what each node owes in the slot of the traffic, in their order: its frame to each receiver, and in the sweep
+/// and the final slot to each target the frame for it. The traffic grows by what was carried, and for want of memory by
+/// the first few of these entries.
 pub fn send_slot<B: Bus>(
     alloc: Global,
     traffic: &mut Traffic,
@@ -259,14 +272,17 @@ pub fn send_slot<B: Bus>(
     mission: &Mission,
     to: Receivers,
 ) -> Result<(), AllocError>
-    requires { (received : AllReceived) × All (StandsForReceived received) nodes.now × All (MaySend mission.now traffic.old.cycle traffic.old.slot received) nodes.now }
+    requires { (received : AllReceived) × All (StandsForReceived received) nodes.now
+        × All (MaySend mission.now traffic.old.cycle traffic.old.slot received) nodes.now }
     ensures script { (B.seen bus.new).script ≡ (B.seen bus.old).script }
     ensures sent { (received : AllReceived) → All (StandsForReceived received) nodes.now →
         OnOk result (SendsSlot B.may (B.seen bus.old).script (B.seen bus.old).log (B.seen bus.new).log
-        (all_sends mission.now traffic.old.cycle traffic.old.slot (receiver_numbers to) received nodes.now) traffic.old traffic.new) }
+        (all_sends mission.now traffic.old.cycle traffic.old.slot (receiver_numbers to) received nodes.now) traffic.old
+        traffic.new) }
     ensures some { (received : AllReceived) → All (StandsForReceived received) nodes.now →
         OnErr result (SendsFirstOfSlot B.may (B.seen bus.old).script (B.seen bus.old).log (B.seen bus.new).log
-        (all_sends mission.now traffic.old.cycle traffic.old.slot (receiver_numbers to) received nodes.now) traffic.old traffic.new) }
+        (all_sends mission.now traffic.old.cycle traffic.old.slot (receiver_numbers to) received nodes.now) traffic.old
+        traffic.new) }
 {
     match send_each(alloc, traffic, bus, nodes.as_slice(), mission, &to) {
         Ok(()) => Ok(()),

@@ -12,8 +12,11 @@ loop-word-preserved c =
     let at = c.loop-word.word in
     let line : ℕ → Option Expression → List ℕ = word_text c.args.row c.args.task.now c.args.block in
     let set : List (Option Expression) = map (option_map tree) c.args.set.now in
-    let this : get_or set at (option_map tree e) ≡ option_map tree (get_or c.args.set.now at e) = get_or-map (option_map tree) c.args.set.now at e (option_map tree e) (omega (arith, c.type_inv.set, c.loop-word-test.true)) in
-    let low : at < length set = omega (arith, length-map c.args.set.now (option_map tree), c.type_inv.set, c.loop-word-test.true) in
+    let this : get_or set at (option_map tree e) ≡ option_map tree (get_or c.args.set.now at e) =
+    get_or-map (option_map tree) c.args.set.now at e (option_map tree e)
+    (omega (arith, c.type_inv.set, c.loop-word-test.true)) in
+    let low : at < length set =
+    omega (arith, length-map c.args.set.now (option_map tree), c.type_inv.set, c.loop-word-test.true) in
     place_more c.args.text.now set at (option_map tree e) c.loop-word.text c.push_word.new.text line
     low (length-take-le at set (omega (arith, low))) c.loop-word.invariant
     (c.in_ok-push_word.ensures ∙ ap (λ x. c.loop-word.text ++ line at x) (sym this))
@@ -21,5 +24,8 @@ loop-word-preserved c =
 pub returns : goal.returns
 returns c =
     let set : List (Option Expression) = map (option_map tree) c.args.set.now in
-    let all : length set ≤ c.loop-word.word = omega (arith, length-map c.args.set.now (option_map tree), c.type_inv.set, c.loop-word-test.false) in
-    c.loop-word.invariant ∙ ap (λ s. c.args.text.now ++ texts_from (word_text c.args.row c.args.task.now c.args.block) 0 s) (take_all c.loop-word.word set all)
+    let all : length set ≤ c.loop-word.word =
+    omega (arith, length-map c.args.set.now (option_map tree), c.type_inv.set, c.loop-word-test.false) in
+    c.loop-word.invariant ∙ ap
+    (λ s. c.args.text.now ++ texts_from (word_text c.args.row c.args.task.now c.args.block) 0 s)
+    (take_all c.loop-word.word set all)

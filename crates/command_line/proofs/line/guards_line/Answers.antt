@@ -17,9 +17,12 @@ returns c =
     ∙ ap without_help (ap app_of_fields c.disable_help_flag.ensures
     ∙ ap without_flag (ap app_of_fields c.no_binary_name.ensures
     ∙ ap named c.new.ensures.app))) in
-    let first = c.in_ok-subcommand.ensures.shape c.in_ok-run.ensures.own ∙ ap₂ with_subcommand top c.in_ok-run.ensures.shape in
+    let first = c.in_ok-subcommand.ensures.shape c.in_ok-run.ensures.own
+    ∙ ap₂ with_subcommand top c.in_ok-run.ensures.shape in
     let check : shape_of c.new-check.result ≡ check_shape = ap (λ (a : App). a.top) c.new-check.ensures.app in
     let second = c.in_ok-subcommand-2.ensures.shape c.new-check.ensures.local ∙ ap₂ with_subcommand first check in
-    let third = c.in_ok-subcommand-3.ensures.shape c.in_ok-demo.ensures.own ∙ ap₂ with_subcommand second c.in_ok-demo.ensures.shape in
+    let third = c.in_ok-subcommand-3.ensures.shape c.in_ok-demo.ensures.own
+    ∙ ap₂ with_subcommand second c.in_ok-demo.ensures.shape in
     let audit : shape_of c.new-audit.result ≡ audit_shape = ap (λ (a : App). a.top) c.new-audit.ensures.app in
-    IfOk-weaker c.subcommand-4.result _ _ (λ line added. added.shape c.new-audit.ensures.local ∙ ap₂ with_subcommand third audit) c.subcommand-4.ensures
+    IfOk-weaker c.subcommand-4.result _ _
+    (λ line added. added.shape c.new-audit.ensures.local ∙ ap₂ with_subcommand third audit) c.subcommand-4.ensures

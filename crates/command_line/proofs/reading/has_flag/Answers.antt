@@ -11,7 +11,8 @@ is_true text = option_map_or (λ t. bytes_eq t (codes "true")) text false
 
 pub returns-in-Some : goal.returns-in-Some
 unfolding has_flag
-returns-in-Some c = c.eq.ensures ∙ ap is_true (c.in-Some.ensures ∙ first_value-rows (found_of c.args.found.now) c.args.id.now)
+returns-in-Some c = c.eq.ensures
+    ∙ ap is_true (c.in-Some.ensures ∙ first_value-rows (found_of c.args.found.now) c.args.id.now)
 
 pub returns-in-None : goal.returns-in-None
 unfolding has_flag

@@ -10,4 +10,5 @@ pub returns : goal.returns
 unfolding is_accused
 returns c =
     ap (λ t. nat_lt t c.accusing.result) c.tolerated.ensures
-    ∙ ap (nat_lt (tolerated_faults c.args.active)) (c.accusing.ensures ∙ count_told (λ (w : SourceValue). has w.accuse c.args.c) c.args.agreed.now)
+    ∙ ap (nat_lt (tolerated_faults c.args.active))
+    (c.accusing.ensures ∙ count_told (λ (w : SourceValue). has w.accuse c.args.c) c.args.agreed.now)

@@ -14,10 +14,13 @@ and_with true b h = h
 and_with false b h = refl
 
 others : (p : ℕ → Bool) (set : ChannelSet) → without set (filter p set) ≡ filter (λ q. not (p q)) set
-others p set = filter_alike (λ q. not (has (filter p set) q)) (λ q. not (p q)) set (λ q h. ap not (has-filter p set q ∙ and_with (p q) (has set q) h))
+others p set = filter_alike (λ q. not (has (filter p set) q)) (λ q. not (p q)) set
+    (λ q h. ap not (has-filter p set q ∙ and_with (p q) (has set q) h))
 
-dropped : (active : ChannelSet) (agreed : Agreed) (cycle : ℕ) (running : Option SweepingValue) (s : SweepingValue) (targets kept : ChannelSet) (start : ℕ) (r : ChannelSet) →
-    running ≡ Some s → s.transfer ≡ record { targets = targets; start = start } → kept ≡ kept_targets active agreed cycle (Some (record { targets = targets; start = start })) →
+dropped : (active : ChannelSet) (agreed : Agreed) (cycle : ℕ) (running : Option SweepingValue) (s : SweepingValue)
+    (targets kept : ChannelSet) (start : ℕ) (r : ChannelSet) →
+    running ≡ Some s → s.transfer ≡ record { targets = targets; start = start } →
+    kept ≡ kept_targets active agreed cycle (Some (record { targets = targets; start = start })) →
     r ≡ without targets kept → r ≡ dropped_of active agreed cycle (transfer_in running)
 dropped active agreed cycle running s targets kept start r was is k e =
     let t : TransferValue = record { targets = targets; start = start } in
@@ -27,5 +30,7 @@ dropped active agreed cycle running s targets kept start r was is k e =
 
 pub returns-in-Some : goal.returns-in-Some
 returns-in-Some c =
-    dropped c.args.active c.args.agreed.now c.args.cycle c.args.running.now c.in-Some.transfer c.transfer.inside.targets c.stayers-kept.result c.transfer.inside.start c.difference.result
-    c.in-Some.is (ap (λ (u : SweepingValue). u.transfer) (sym c.transfer.view_is)) c.stayers-kept.ensures c.difference.ensures
+    dropped c.args.active c.args.agreed.now c.args.cycle c.args.running.now c.in-Some.transfer c.transfer.inside.targets
+    c.stayers-kept.result c.transfer.inside.start c.difference.result
+    c.in-Some.is (ap (λ (u : SweepingValue). u.transfer) (sym c.transfer.view_is)) c.stayers-kept.ensures
+    c.difference.ensures

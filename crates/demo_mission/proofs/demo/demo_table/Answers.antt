@@ -8,12 +8,14 @@ pub new-requires-clause-fit : goal.new-requires-clause-fit
 new-requires-clause-fit c = rw c.in_ok-tasks.ensures.tasks (tasks_fit 4 0 c.args.draws.now.number)
 
 pub new-requires-clause-named : goal.new-requires-clause-named
-new-requires-clause-named c = rw (c.in_ok-tasks.ensures.tasks, c.in_ok-rows.ensures) (tasks_named c.args.draws.now.number)
+new-requires-clause-named c =
+    rw (c.in_ok-tasks.ensures.tasks, c.in_ok-rows.ensures) (tasks_named c.args.draws.now.number)
 
 pub made-requires : goal.made-requires
 made-requires c =
     answered_ok _ (table_fault 128 c.in_ok-tasks.tasks.items (places_of c.in_ok-rows.rows.items)) c.new.result
-    (rw (c.in_ok-tasks.ensures.tasks, c.in_ok-rows.ensures) (no_table_fault c.args.draws.now.number)) c.new.ensures.answer
+    (rw (c.in_ok-tasks.ensures.tasks, c.in_ok-rows.ensures) (no_table_fault c.args.draws.now.number))
+    c.new.ensures.answer
 
 pub returns-clause-table : goal.returns-clause-table
 returns-clause-table c =

@@ -6,5 +6,6 @@ use Rattle.demo_mission.proofs.sensors.sensor_rows.Given as goal
 
 abbrev pub invariant-loop-row : goal.invariant-loop-row
 invariant-loop-row l =
-    (rows_of l.rows.items ++ map (map (padded 4)) (sensor_rows (8 - l._row) l.draws.number) ≡ map (map (padded 4)) (sensor_rows 8 l.initial.draws.number))
+    (rows_of l.rows.items ++ map (map (padded 4)) (sensor_rows (8 - l._row) l.draws.number)
+    ≡ map (map (padded 4)) (sensor_rows 8 l.initial.draws.number))
     × (number_after (16 * (8 - l._row)) l.draws.number ≡ number_after (16 * 8) l.initial.draws.number)

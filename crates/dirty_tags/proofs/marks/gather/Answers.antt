@@ -13,13 +13,16 @@ loop-block-preserved c =
     elim c.if-marks-block.branch [
       | then-marks-block+then-len-most w ↦
           w.plan-is ∙ w.push.ensures
-          ∙ gathers p c.args.from c.loop-block.block c.args.most c.args.plan.now c.loop-block.plan (omega arith) w.if-marks-block.true c.loop-block.invariant (omega (arith, w.len.ensures.value))
+          ∙ gathers p c.args.from c.loop-block.block c.args.most c.args.plan.now c.loop-block.plan (omega arith)
+          w.if-marks-block.true c.loop-block.invariant (omega (arith, w.len.ensures.value))
       | else-marks-block w ↦
           w.plan-is
           ∙ elim w.else-marks-block.branch [
             | else-marks-block-via-then-marks-block+else-len-most v ↦
-                is_full p c.args.from c.loop-block.block c.args.most c.args.plan.now c.loop-block.plan (omega arith) v.if-marks-block.true c.loop-block.invariant (omega (arith, v.len.ensures.value))
+                is_full p c.args.from c.loop-block.block c.args.most c.args.plan.now c.loop-block.plan (omega arith)
+                v.if-marks-block.true c.loop-block.invariant (omega (arith, v.len.ensures.value))
             | else-marks-block-via-else-marks-block v ↦
-                passes_over p c.args.from c.loop-block.block c.args.most c.args.plan.now c.loop-block.plan (omega arith) v.if-marks-block.false c.loop-block.invariant
+                passes_over p c.args.from c.loop-block.block c.args.most c.args.plan.now c.loop-block.plan (omega arith)
+                v.if-marks-block.false c.loop-block.invariant
           ]
     ]

@@ -4,4 +4,6 @@ use Rattle.dirty_tags.specs.Marks.{is_marked}
 use Rattle.dirty_tags.proofs.marks.mark_all.Given as goal
 
 abbrev pub invariant-loop-block : goal.invariant-loop-block
-invariant-loop-block l = (b : ℕ) → is_marked l.marks b ≡ cond (nat_lt b l.block) (has l.blocks b || is_marked l.initial.marks b) (is_marked l.initial.marks b)
+invariant-loop-block l = (b : ℕ) →
+    is_marked l.marks b ≡ cond (nat_lt b l.block) (has l.blocks b || is_marked l.initial.marks b)
+    (is_marked l.initial.marks b)

@@ -6,4 +6,6 @@ use Rattle.dirty_tags.proofs.MarkedLists.{last_is, some_length}
 pub returns-else-is_empty : goal.returns-else-is_empty
 returns-else-is_empty c =
     ap (λ b. (b + 1) % c.args.blocks) c.from.ensures
-    ∙ sym (ap (cursor_after c.args.blocks c.args.cursor) (last_is c.args.planned.now 0 (some_length c.args.planned.now c.is_empty.result c.is_empty.ensures c.if-is_empty.false)))
+    ∙ sym (ap (cursor_after c.args.blocks c.args.cursor)
+    (last_is c.args.planned.now 0
+    (some_length c.args.planned.now c.is_empty.result c.is_empty.ensures c.if-is_empty.false)))

@@ -4,4 +4,5 @@ use Rattle.dirty_tags.specs.Marks.{is_marked}
 use Rattle.dirty_tags.proofs.marks.unmark.Given as goal
 
 abbrev pub invariant-loop-block : goal.invariant-loop-block
-invariant-loop-block l = (b : ℕ) → b < 256 → is_marked l.marks b ≡ (not (has (take l.block-index l.planned) b) && is_marked l.initial.marks b)
+invariant-loop-block l = (b : ℕ) → b < 256 →
+    is_marked l.marks b ≡ (not (has (take l.block-index l.planned) b) && is_marked l.initial.marks b)

@@ -14,7 +14,9 @@ returns-in_err-next-clause-exact g c =
     let meaning = g.R.ElementReader.meaning c.args.reader.now in
     let check = g.R.ElementReader.check c.args.reader.now in
     let values = c.args.items.now in
-    rw (p.1, p.2) (seen_fails meaning check c.args.path.now values (each check c.args.path.now [] (items_view values)) c.loop-value.list.items c.loop-value.value-index _ c.value-item.result c.value-item.is c.loop-value-test.true failed c.loop-value.invariant.0)
+    rw (p.1, p.2) (seen_fails meaning check c.args.path.now values (each check c.args.path.now [] (items_view values))
+    c.loop-value.list.items c.loop-value.value-index _ c.value-item.result c.value-item.is c.loop-value-test.true
+    failed c.loop-value.invariant.0)
 
 pub loop-value-preserved : goal.loop-value-preserved
 loop-value-preserved g c =
@@ -23,10 +25,15 @@ loop-value-preserved g c =
     let check = g.R.ElementReader.check c.args.reader.now in
     let values = c.args.items.now in
     rw c.in_ok-push.ensures.pushed (
-      seen_more meaning check c.args.path.now values (each check c.args.path.now [] (items_view values)) c.loop-value.list.items c.loop-value.value-index _ c.value-item.result c.value-item.is c.loop-value-test.true passed c.loop-value.invariant.0,
+      seen_more meaning check c.args.path.now values (each check c.args.path.now [] (items_view values))
+          c.loop-value.list.items c.loop-value.value-index _ c.value-item.result c.value-item.is c.loop-value-test.true
+          passed c.loop-value.invariant.0,
       length-append c.loop-value.list.items _ ∙ ap (λ n. n + 1) c.loop-value.invariant.1,
-      all_pushed (g.R.ElementReader.holds c.args.reader.now) c.loop-value.list.items _ c.loop-value.invariant.2 c.in_ok-next.ensures.holds,
+      all_pushed (g.R.ElementReader.holds c.args.reader.now) c.loop-value.list.items _ c.loop-value.invariant.2
+          c.in_ok-next.ensures.holds,
     )
 
 pub returns-clause-exact : goal.returns-clause-exact
-returns-clause-exact g c = seen_ends (g.R.ElementReader.meaning c.args.reader.now) (g.R.ElementReader.check c.args.reader.now) c.args.path.now c.args.items.now _ c.loop-value.list.items c.loop-value.value-index c.loop-value-test.false c.loop-value.invariant.0
+returns-clause-exact g c =
+    seen_ends (g.R.ElementReader.meaning c.args.reader.now) (g.R.ElementReader.check c.args.reader.now) c.args.path.now
+    c.args.items.now _ c.loop-value.list.items c.loop-value.value-index c.loop-value-test.false c.loop-value.invariant.0

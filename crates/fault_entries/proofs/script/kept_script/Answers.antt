@@ -12,11 +12,15 @@ new-requires-clause-slots c = all_in_cycle (map fault_value c.args.entries.items
 
 pub returns-in-Ok-clause-fits : goal.returns-in-Ok-clause-fits
 returns-in-Ok-clause-fits c =
-    let fits = script_fits c.args.sizes.channels c.args.sizes.cycles c.args.sizes.blocks (map fault_value c.args.entries.items) c.requires.holds c.in-Ok.ensures.kept in
+    let fits = script_fits c.args.sizes.channels c.args.sizes.cycles c.args.sizes.blocks
+    (map fault_value c.args.entries.items) c.requires.holds c.in-Ok.ensures.kept in
     rw c.in-Ok.ensures.made fits
 
 pub returns-clause-exact : goal.returns-clause-exact
 returns-clause-exact c =
     let entries = c.args.entries.items in
-    let flags = c.as_slice-in-Err.ensures.value ∙ c.in_ok-for_bus.ensures ∙ ap (map (λ entry. is_for_bus (fault_value entry))) c.as_slice.ensures ∙ sym (map-map is_for_bus fault_value entries) in
-    refused_by c.args.path.now (map fault_value entries) c.as_slice-in-Err.result.now c.refusal_of.result flags c.in-Err.fault _ c.in-Err.ensures.refused c.refusal_of.ensures
+    let flags = c.as_slice-in-Err.ensures.value ∙ c.in_ok-for_bus.ensures
+    ∙ ap (map (λ entry. is_for_bus (fault_value entry))) c.as_slice.ensures
+    ∙ sym (map-map is_for_bus fault_value entries) in
+    refused_by c.args.path.now (map fault_value entries) c.as_slice-in-Err.result.now c.refusal_of.result flags
+    c.in-Err.fault _ c.in-Err.ensures.refused c.refusal_of.ensures

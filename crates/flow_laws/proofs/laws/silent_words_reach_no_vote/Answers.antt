@@ -7,4 +7,5 @@ returns-clause-stay c M inputs s n a b mission early given alike = stay_alike M 
 
 pub returns-clause-votes : goal.returns-clause-votes
 returns-clause-votes c M inputs s n a b mission early given alike =
-    same_votes M mission (worked_context M inputs s a n) (worked_context M inputs s b n) (stay_alike M mission inputs given s a b alike n early)
+    same_votes M mission (worked_context M inputs s a n) (worked_context M inputs s b n)
+    (stay_alike M mission inputs given s a b alike n early)

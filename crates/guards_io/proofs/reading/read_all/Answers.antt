@@ -10,7 +10,9 @@ returns-in_err-read_piece g c =
     let between = g.S.Source.seen c.loop-bytes.src in
     let new = g.S.Source.seen c.read_piece.new.src in
     rw (p.1, p.2)
-    (stopped old between new c.loop-bytes.bytes.items c.args.limit _ (omega (arith, c.len-in-loop-bytes.ensures)) (omega (arith, c.loop-bytes-test.true, c.len.ensures)) c.loop-bytes.invariant.taken c.loop-bytes.invariant.kept _
+    (stopped old between new c.loop-bytes.bytes.items c.args.limit _ (omega (arith, c.len-in-loop-bytes.ensures))
+    (omega (arith, c.loop-bytes-test.true, c.len.ensures)) c.loop-bytes.invariant.taken c.loop-bytes.invariant.kept
+    _
     (λ is. c.in_err-read_piece.ensures.failed (ap Err is))
     (λ is. c.in_err-read_piece.ensures.long (ap Err is))
     (λ is. c.in_err-read_piece.ensures.short (ap Err is)))

@@ -10,7 +10,11 @@ pub returns : goal.returns
 unfolding ideal_inputs
 returns c =
     let M = c.args.mission.now in
-    let members = c.below-active.ensures ∙ ap (λ (r : RulesValue). numbers_below r.channels) (c.behind-mission.view_is ∙ c.rules.ensures) in
-    c.consolidate.ensures.inputs (λ q low absent. ap (λ ws. place_or ws q None) c.sensed-words.ensures ∙ passive_none M c.args.cycle q low (subst (λ s. has s q ≡ false) members absent))
-    ∙ ap (λ ws. inputs_of c.width-width.result ws ++ replicate (4 - c.width-width.result) (pos 0)) c.sensed-words.ensures
+    let members = c.below-active.ensures
+    ∙ ap (λ (r : RulesValue). numbers_below r.channels) (c.behind-mission.view_is ∙ c.rules.ensures) in
+    c.consolidate.ensures.inputs
+    (λ q low absent. ap (λ ws. place_or ws q None) c.sensed-words.ensures
+    ∙ passive_none M c.args.cycle q low (subst (λ s. has s q ≡ false) members absent))
+    ∙ ap (λ ws. inputs_of c.width-width.result ws ++ replicate (4 - c.width-width.result) (pos 0))
+    c.sensed-words.ensures
     ∙ ap (λ n. inputs_of n (sensed M c.args.cycle) ++ replicate (4 - n) (pos 0)) c.width-width.ensures

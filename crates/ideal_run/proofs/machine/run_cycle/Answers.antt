@@ -9,7 +9,8 @@ use Rattle.ideal_run.proofs.machine.run_cycle.Goals as goal
 
 pub work-requires : goal.work-requires
 work-requires g c =
-    ap length c.requires ∙ ideal_length c.args.mission.now c.args.cycle ∙ c.prove_sizes.ensures.initial ∙ sym (ap (λ (t : TableValue). t.blocks) c.table.ensures)
+    ap length c.requires ∙ ideal_length c.args.mission.now c.args.cycle ∙ c.prove_sizes.ensures.initial
+    ∙ sym (ap (λ (t : TableValue). t.blocks) c.table.ensures)
 
 pub returns-clause-context : goal.returns-clause-context
 returns-clause-context g c =

@@ -9,7 +9,8 @@ pub loop-number-preserved : goal.loop-number-preserved
 loop-number-preserved c =
     let seven = c.loop-number.invariant.seven in
     record {
-      filled = table_more (sensed_at c.args.mission.now c.args.cycle) c.loop-number.words c.loop-number.number c.word_at.result (omega arith) c.word_at.ensures c.loop-number.invariant.filled;
+      filled = table_more (sensed_at c.args.mission.now c.args.cycle) c.loop-number.words c.loop-number.number
+          c.word_at.result (omega arith) c.word_at.ensures c.loop-number.invariant.filled;
       seven = length-set c.loop-number.words c.loop-number.number c.word_at.result ∙ seven;
     }
 

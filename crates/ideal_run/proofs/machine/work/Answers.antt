@@ -6,5 +6,6 @@ use Rattle.ideal_run.proofs.machine.work.Goals as goal
 pub apply_write-requires-clause-blocks : goal.apply_write-requires-clause-blocks
 apply_write-requires-clause-blocks g c =
     ap length c.loop-step.invariant.done
-    ∙ apply_length (table_writes c.args.table.now c.args.cycle) c.args.context.now c.args.cycle c.args.inputs.now c.loop-step.step
+    ∙ apply_length (table_writes c.args.table.now c.args.cycle) c.args.context.now c.args.cycle c.args.inputs.now
+    c.loop-step.step
     ∙ c.requires

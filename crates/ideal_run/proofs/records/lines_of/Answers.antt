@@ -15,7 +15,8 @@ loop-number-preserved c = λ width.
       | in-Some+in_ok-push w ↦
           ap (λ (lines : Seen LineValue). map (shown_line c.args.channels width outputs) lines.items) w.lines-is
           ∙ ap (map (shown_line c.args.channels width outputs)) w.in_ok-push.ensures.pushed
-          ∙ lines_more c.args.channels width outputs c.loop-number.number wanted c.loop-number.lines.items w.line_of-line.result (c.loop-number.invariant width)
+          ∙ lines_more c.args.channels width outputs c.loop-number.number wanted c.loop-number.lines.items
+          w.line_of-line.result (c.loop-number.invariant width)
           (w.line_of-line.ensures c.args.channels width c.requires ∙ ap wanted w.in-Some.ensures)
       | in_default w ↦
           let none : 7 ≤ c.loop-number.number = w.in_default.ensures in

@@ -7,4 +7,5 @@ use Rattle.ideal_run.proofs.records.lines_of.Given as goal
 -- the channels below this number have their lines
 abbrev pub invariant-loop-number : goal.invariant-loop-number
 invariant-loop-number l =
-    (width : ℕ) → map (shown_line l.channels width (length l.ballot)) l.lines.items ≡ map (ideal_line l.channels (take width l.inputs) l.ballot) (numbers_below l.number)
+    (width : ℕ) → map (shown_line l.channels width (length l.ballot)) l.lines.items
+    ≡ map (ideal_line l.channels (take width l.inputs) l.ballot) (numbers_below l.number)

@@ -10,6 +10,7 @@ loop-place-preserved c =
     let count = c.count_of.ensures.count in
     let same : length c.in_use-words.result.now ≡ length c.args.ballot.now = ap length c.in_use-words.ensures in
     record {
-      voted = votes_more c.in_use-words.result.now c.loop-place.votes c.loop-place.place c.vote_at.result (omega arith) (omega arith) c.vote_at.ensures c.loop-place.invariant.voted;
+      voted = votes_more c.in_use-words.result.now c.loop-place.votes c.loop-place.place c.vote_at.result (omega arith)
+          (omega arith) c.vote_at.ensures c.loop-place.invariant.voted;
       eight = length-set c.loop-place.votes c.loop-place.place c.vote_at.result ∙ eight;
     }

@@ -16,4 +16,5 @@ returns-in_err-put_run g c =
     rw (p.1, p.2) (report_cycles c.args.mission.now _ _ _ _ c.in_ok-put_head.ensures c.in_err-put_run.ensures)
 
 pub returns : goal.returns
-returns g c = report_last c.args.mission.now _ _ _ _ _ c.in_ok-put_head.ensures c.in_ok-put_run.ensures c.put_last.ensures
+returns g c = report_last c.args.mission.now _ _ _ _ _ c.in_ok-put_head.ensures c.in_ok-put_run.ensures
+    c.put_last.ensures

@@ -5,4 +5,5 @@ use Rattle.guards_model.specs.Replicas.{same_final}
 use Rattle.join_vote.proofs.finals.most_content.Given as goal
 
 abbrev pub invariant-loop-frame : goal.invariant-loop-frame
-invariant-loop-frame l = find (λ v. nat_lt (length l.frames) (2 * count_by (same_final v) l.frames)) (drop l.frame-index l.frames) ≡ majority same_final l.frames
+invariant-loop-frame l = find (λ v. nat_lt (length l.frames) (2 * count_by (same_final v) l.frames))
+    (drop l.frame-index l.frames) ≡ majority same_final l.frames

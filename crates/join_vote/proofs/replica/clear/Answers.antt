@@ -5,7 +5,8 @@ use Rattle.join_vote.proofs.replica.clear.Goals as goal
 
 pub set_block-requires : goal.set_block-requires
 set_block-requires c =
-    let long = filled_length (λ k. zero_block) c.args.blocks.now c.loop-block.blocks c.loop-block.block c.loop-block.invariant in
+    let long = filled_length (λ k. zero_block) c.args.blocks.now c.loop-block.blocks c.loop-block.block
+    c.loop-block.invariant in
     let end = c.len-block-end.ensures.value in
     let within = c.loop-block-test.true in
     omega arith
@@ -14,7 +15,8 @@ pub loop-block-preserved : goal.loop-block-preserved
 loop-block-preserved c =
     let end = c.len-block-end.ensures.value in
     let within = c.loop-block-test.true in
-    filled_more (λ k. zero_block) c.args.blocks.now c.loop-block.blocks c.set_block.new.self c.loop-block.block zero_block (omega arith) c.loop-block.invariant refl c.set_block.ensures
+    filled_more (λ k. zero_block) c.args.blocks.now c.loop-block.blocks c.set_block.new.self c.loop-block.block
+    zero_block (omega arith) c.loop-block.invariant refl c.set_block.ensures
 
 pub returns : goal.returns
 returns c =

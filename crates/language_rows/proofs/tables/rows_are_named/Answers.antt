@@ -7,5 +7,6 @@ use Rattle.language_rows.proofs.tables.rows_are_named.Goals as goal
 
 pub returns : goal.returns
 returns c =
-    all_from_yields_List (λ row. names_tasks c.args.count row.items) _ _ c.all.result c.all.ensures.ran (YieldsList-from_slice c.args.rows.now.items cc) (λ x b q k. search (rules, tests))
+    all_from_yields_List (λ row. names_tasks c.args.count row.items) _ _ c.all.result c.all.ensures.ran
+    (YieldsList-from_slice c.args.rows.now.items cc) (λ x b q k. search (rules, tests))
     ∙ sym (list_all-map (names_tasks c.args.count) (λ row. row.items) c.args.rows.now.items)

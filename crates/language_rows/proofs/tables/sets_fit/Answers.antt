@@ -10,5 +10,7 @@ use Rattle.language_rows.proofs.tables.sets_fit.Goals as goal
 
 pub returns : goal.returns
 returns c =
-    all_from_yields_List (λ expr. fits_or_none 2 1 (option_map tree expr)) _ _ c.all.result c.all.ensures.ran (YieldsList-from_slice c.set.inside.at cc) (λ x b q k. search (rules, tests))
-    ∙ sym (list_all-map (fits_or_none 2 1) (option_map tree) c.set.inside.at) ∙ ap (list_all (fits_or_none 2 1)) c.set.view_is
+    all_from_yields_List (λ expr. fits_or_none 2 1 (option_map tree expr)) _ _ c.all.result c.all.ensures.ran
+    (YieldsList-from_slice c.set.inside.at cc) (λ x b q k. search (rules, tests))
+    ∙ sym (list_all-map (fits_or_none 2 1) (option_map tree) c.set.inside.at)
+    ∙ ap (list_all (fits_or_none 2 1)) c.set.view_is

@@ -6,7 +6,26 @@ use Rattle.law_rows.proofs.judgements.too_few_accusers.Goals as goal
 
 pub returns-clause-run : goal.returns-clause-run
 unfolding run_on_literals
-returns-clause-run c = record { is_mission = record { rules = refl; cycles = refl; width = refl; return_after = refl; initial = refl; table = refl; outputs = refl; sensors = refl; script = refl; actuator = refl }; is_run = run_if row.mission row.log row.histories row.mission.cycles refl refl refl; reported = refl; sent = refl; delivered = refl; switches = refl }
+returns-clause-run c = record {
+  is_mission =
+      record {
+        rules = refl;
+        cycles = refl;
+        width = refl;
+        return_after = refl;
+        initial = refl;
+        table = refl;
+        outputs = refl;
+        sensors = refl;
+        script = refl;
+        actuator = refl;
+      };
+  is_run = run_if row.mission row.log row.histories row.mission.cycles refl refl refl;
+  reported = refl;
+  sent = refl;
+  delivered = refl;
+  switches = refl;
+}
 
 pub returns-clause-found : goal.returns-clause-found
 unfolding run_on_literals

@@ -17,7 +17,18 @@ three = fewer_counted row.mission 0 3 3 (omega arith) refl
 
 is_mission : IsMission row.mission
 unfolding model_on_literals
-is_mission = record { rules = refl; cycles = refl; width = refl; return_after = refl; initial = refl; table = refl; outputs = refl; sensors = refl; script = refl; actuator = refl }
+is_mission = record {
+  rules = refl;
+  cycles = refl;
+  width = refl;
+  return_after = refl;
+  initial = refl;
+  table = refl;
+  outputs = refl;
+  sensors = refl;
+  script = refl;
+  actuator = refl;
+}
 
 pub returns-clause-length : goal.returns-clause-length
 returns-clause-length c = three

@@ -13,7 +13,19 @@ round = record { some = omega arith; rows = refl; again = refl; unfit = refl }
 
 pub returns-clause-mission : goal.returns-clause-mission
 unfolding model_on_literals
-returns-clause-mission c = record { rules = refl; cycles = refl; width = refl; return_after = refl; initial = refl; table = refl; outputs = refl; sensors = refl; script = refl; actuator = refl }
+returns-clause-mission c =
+    record {
+      rules = refl;
+      cycles = refl;
+      width = refl;
+      return_after = refl;
+      initial = refl;
+      table = refl;
+      outputs = refl;
+      sensors = refl;
+      script = refl;
+      actuator = refl;
+    }
 
 pub returns-clause-bound : goal.returns-clause-bound
 returns-clause-bound c = refl

@@ -14,7 +14,18 @@ ten = fewer_counted late_fit 0 10 10 (omega arith) refl
 
 is_mission : IsMission late_fit
 unfolding model_on_literals
-is_mission = record { rules = refl; cycles = refl; width = refl; return_after = refl; initial = refl; table = refl; outputs = refl; sensors = refl; script = refl; actuator = refl }
+is_mission = record {
+  rules = refl;
+  cycles = refl;
+  width = refl;
+  return_after = refl;
+  initial = refl;
+  table = refl;
+  outputs = refl;
+  sensors = refl;
+  script = refl;
+  actuator = refl;
+}
 
 pub returns-clause-mission : goal.returns-clause-mission
 returns-clause-mission c = is_mission

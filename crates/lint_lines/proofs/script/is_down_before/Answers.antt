@@ -17,11 +17,13 @@ loop-before-preserved c =
       within = omega (arith, c.loop-before-test.true);
       down =
           c.is_down_after-down.ensures
-          ∙ ap (λ d. list_any (is_crash_in q n) script || (d && not (list_any (is_restart q n) script))) c.loop-before.invariant.down
+          ∙ ap (λ d. list_any (is_crash_in q n) script || (d && not (list_any (is_restart q n) script)))
+          c.loop-before.invariant.down
           ∙ down_next script q n;
     }
 
 pub returns : goal.returns
 returns c =
-    let end : c.loop-before.before ≡ c.args.cycle = omega (arith, c.loop-before-test.false, c.loop-before.invariant.within) in
+    let end : c.loop-before.before ≡ c.args.cycle =
+    omega (arith, c.loop-before-test.false, c.loop-before.invariant.within) in
     c.loop-before.invariant.down ∙ ap (is_down_before c.args.script.now c.args.channel) end

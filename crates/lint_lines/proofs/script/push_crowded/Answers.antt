@@ -13,11 +13,15 @@ loop-cycle-preserved c =
     record {
       within = omega (arith, c.loop-cycle-test.true);
       done =
-          number_more c.args.lines.now.items c.loop-cycle.lines.items c.push_line.new.lines.items (crowded_line c.args.channels c.args.script.now) c.loop-cycle.cycle c.loop-cycle.invariant.done
+          number_more c.args.lines.now.items c.loop-cycle.lines.items c.push_line.new.lines.items
+          (crowded_line c.args.channels c.args.script.now) c.loop-cycle.cycle c.loop-cycle.invariant.done
           (c.in_ok-push_line.ensures ∙ ap (λ ls. c.loop-cycle.lines.items ++ ls) c.crowded_line.ensures);
     }
 
 pub returns : goal.returns
 returns c =
-    let end : c.loop-cycle.cycle ≡ c.args.cycles = omega (arith, c.loop-cycle-test.false, c.loop-cycle.invariant.within) in
-    c.loop-cycle.invariant.done ∙ ap (λ n. c.args.lines.now.items ++ flat_map (crowded_line c.args.channels c.args.script.now) (numbers_below n)) end
+    let end : c.loop-cycle.cycle ≡ c.args.cycles =
+    omega (arith, c.loop-cycle-test.false, c.loop-cycle.invariant.within) in
+    c.loop-cycle.invariant.done
+    ∙ ap (λ n. c.args.lines.now.items
+    ++ flat_map (crowded_line c.args.channels c.args.script.now) (numbers_below n)) end

@@ -12,6 +12,8 @@ loop-entry-init c = sym (append-nil c.args.lines.now.items)
 pub loop-entry-preserved : goal.loop-entry-preserved
 loop-entry-preserved c =
     let f : Fault → List LintLine = λ entry. idle_entry c.args.script.now (fault_value entry) in
-    element_more c.args.lines.now.items c.loop-entry.lines.items c.push_line.new.lines.items f c.args.entries.now c.loop-entry.entry-index c.entry-item.result c.loop-entry-test.true
+    element_more c.args.lines.now.items c.loop-entry.lines.items c.push_line.new.lines.items f c.args.entries.now
+    c.loop-entry.entry-index c.entry-item.result c.loop-entry-test.true
     c.loop-entry.invariant
-    (c.in_ok-push_line.ensures ∙ ap (λ ls. c.loop-entry.lines.items ++ ls) (c.idle_entry.ensures ∙ ap f c.entry-item.is))
+    (c.in_ok-push_line.ensures
+    ∙ ap (λ ls. c.loop-entry.lines.items ++ ls) (c.idle_entry.ensures ∙ ap f c.entry-item.is))

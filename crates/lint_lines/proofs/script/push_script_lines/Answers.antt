@@ -24,7 +24,8 @@ returns c =
     let rules = c.rules.result.now in
     let is = c.script-script.ensures in
     let channels = c.channels_of-channels.ensures in
-    let rounds_is : rounds ≡ tolerated_faults (channels_of M) + 1 = c.rounds_of-rounds.ensures ∙ ap (λ k. tolerated_faults (numbers_below k) + 1) channels in
+    let rounds_is : rounds ≡ tolerated_faults (channels_of M) + 1 =
+    c.rounds_of-rounds.ensures ∙ ap (λ k. tolerated_faults (numbers_below k) + 1) channels in
     let rules_are : rules ≡ bus_rules M = c.rules.ensures ∙ ap (filter_map bus_rule) is in
     three_appended old (crowded_lines M) (flat_map (idle_entry M.script) M.script)
     (flat_map (idle_rule M.rules.channels (tolerated_faults (channels_of M) + 1) (is_some M.actuator)) (bus_rules M))
@@ -34,9 +35,14 @@ returns c =
     ∙ ap (λ s. old ++ flat_map (crowded_line M.rules.channels s) (numbers_below n)) is
     ∙ ap (λ k. old ++ flat_map (crowded_line M.rules.channels M.script) (numbers_below k)) c.cycles.ensures)
     (c.in_ok-push_idle_entries.ensures
-    ∙ ap (λ (ls : List LintLine). l1 ++ ls) (lines_of_others (idle_entry script) (λ rule. refl) c.others.result.now script c.others.ensures ∙ ap (λ (s : List FaultValue). flat_map (idle_entry s) s) is))
+    ∙ ap (λ (ls : List LintLine). l1 ++ ls)
+    (lines_of_others (idle_entry script) (λ rule. refl) c.others.result.now script c.others.ensures
+    ∙ ap (λ (s : List FaultValue). flat_map (idle_entry s) s) is))
     (c.in_ok-push_idle_rules.ensures
     ∙ ap (λ k. l2 ++ flat_map (idle_rule k rounds drives) rules) channels
     ∙ ap (λ k. l2 ++ flat_map (idle_rule M.rules.channels k drives) rules) rounds_is
-    ∙ ap (λ (b : Bool). l2 ++ flat_map (idle_rule M.rules.channels (tolerated_faults (channels_of M) + 1) b) rules) c.has_actuator-drives.ensures
-    ∙ ap (λ (rs : List RuleValue). l2 ++ flat_map (idle_rule M.rules.channels (tolerated_faults (channels_of M) + 1) (is_some M.actuator)) rs) rules_are)
+    ∙ ap (λ (b : Bool). l2 ++ flat_map (idle_rule M.rules.channels (tolerated_faults (channels_of M) + 1) b) rules)
+    c.has_actuator-drives.ensures
+    ∙ ap (λ (rs : List RuleValue). l2
+    ++ flat_map (idle_rule M.rules.channels (tolerated_faults (channels_of M) + 1) (is_some M.actuator)) rs)
+    rules_are)

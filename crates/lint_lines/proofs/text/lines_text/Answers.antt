@@ -7,7 +7,8 @@ use Rattle.lint_lines.proofs.text.lines_text.Goals as goal
 
 pub loop-place-preserved : goal.loop-place-preserved
 loop-place-preserved c =
-    element_more [] c.loop-place.text c.push_text.new.text line_text c.args.lines.now c.loop-place.place _ c.loop-place-test.true c.loop-place.invariant
+    element_more [] c.loop-place.text c.push_text.new.text line_text c.args.lines.now c.loop-place.place _
+    c.loop-place-test.true c.loop-place.invariant
     c.in_ok-push_text.ensures
 
 pub returns : goal.returns

@@ -13,6 +13,7 @@ loop-place-preserved c =
     let outputs = c.args.outputs.now in
     let at = c.loop-place.place in
     let low : at < length outputs = c.loop-place-test.true in
-    place_more c.args.lines.now.items c.loop-place.lines.items c.push_line.new.lines.items (output_line (flag_at c.args.written.now)) outputs at (0, 0) low
+    place_more c.args.lines.now.items c.loop-place.lines.items c.push_line.new.lines.items
+    (output_line (flag_at c.args.written.now)) outputs at (0, 0) low
     (length-take-le at outputs (omega (arith, low))) c.loop-place.invariant
     (c.in_ok-push_line.ensures ∙ ap (λ ls. c.loop-place.lines.items ++ ls) c.output_line.ensures)

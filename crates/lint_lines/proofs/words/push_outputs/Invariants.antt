@@ -5,4 +5,5 @@ use Rattle.lint_lines.specs.WordLines.{output_line}
 use Rattle.lint_lines.proofs.words.push_outputs.Given as goal
 
 abbrev pub invariant-loop-place : goal.invariant-loop-place
-invariant-loop-place l = l.lines.items ≡ l.initial.lines.items ++ lists_from (output_line (flag_at l.written)) 0 (take l.place l.outputs)
+invariant-loop-place l = l.lines.items
+    ≡ l.initial.lines.items ++ lists_from (output_line (flag_at l.written)) 0 (take l.place l.outputs)

@@ -14,11 +14,13 @@ loop-k-preserved c =
     record {
       within = omega (arith, c.loop-k-test.true);
       done =
-          number_more c.args.lines.now.items c.loop-k.lines.items c.push_line.new.lines.items (sensor_line (flag_at c.args.read.now)) c.loop-k.k c.loop-k.invariant.done
+          number_more c.args.lines.now.items c.loop-k.lines.items c.push_line.new.lines.items
+          (sensor_line (flag_at c.args.read.now)) c.loop-k.k c.loop-k.invariant.done
           (c.in_ok-push_line.ensures ∙ ap (λ ls. c.loop-k.lines.items ++ ls) c.sensor_line.ensures);
     }
 
 pub returns : goal.returns
 returns c =
     let end : c.loop-k.k ≡ c.args.width = omega (arith, c.loop-k-test.false, c.loop-k.invariant.within) in
-    c.loop-k.invariant.done ∙ ap (λ n. c.args.lines.now.items ++ flat_map (sensor_line (flag_at c.args.read.now)) (numbers_below n)) end
+    c.loop-k.invariant.done ∙ ap
+    (λ n. c.args.lines.now.items ++ flat_map (sensor_line (flag_at c.args.read.now)) (numbers_below n)) end

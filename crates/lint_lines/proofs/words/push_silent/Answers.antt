@@ -14,11 +14,15 @@ loop-w-preserved c =
     record {
       within = omega (arith, c.loop-w-test.true);
       done =
-          number_more c.args.lines.now.items c.loop-w.lines.items c.push_line.new.lines.items (silent_line (flag_at c.args.written.now) (flag_at c.args.depended.now)) c.loop-w.w c.loop-w.invariant.done
+          number_more c.args.lines.now.items c.loop-w.lines.items c.push_line.new.lines.items
+          (silent_line (flag_at c.args.written.now) (flag_at c.args.depended.now)) c.loop-w.w
+          c.loop-w.invariant.done
           (c.in_ok-push_line.ensures ∙ ap (λ ls. c.loop-w.lines.items ++ ls) c.silent_line.ensures);
     }
 
 pub returns : goal.returns
 returns c =
     let end : c.loop-w.w ≡ c.args.count = omega (arith, c.loop-w-test.false, c.loop-w.invariant.within) in
-    c.loop-w.invariant.done ∙ ap (λ n. c.args.lines.now.items ++ flat_map (silent_line (flag_at c.args.written.now) (flag_at c.args.depended.now)) (numbers_below n)) end
+    c.loop-w.invariant.done ∙ ap
+    (λ n. c.args.lines.now.items
+    ++ flat_map (silent_line (flag_at c.args.written.now) (flag_at c.args.depended.now)) (numbers_below n)) end

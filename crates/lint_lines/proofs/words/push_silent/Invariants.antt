@@ -8,5 +8,6 @@ use Rattle.lint_lines.proofs.words.push_silent.Given as goal
 abbrev pub invariant-loop-w : goal.invariant-loop-w
 invariant-loop-w l = record {
   within : l.w ≤ l.count;
-  done : l.lines.items ≡ l.initial.lines.items ++ flat_map (silent_line (flag_at l.written) (flag_at l.depended)) (numbers_below l.w);
+  done : l.lines.items ≡ l.initial.lines.items
+      ++ flat_map (silent_line (flag_at l.written) (flag_at l.depended)) (numbers_below l.w);
 }

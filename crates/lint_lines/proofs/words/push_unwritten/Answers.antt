@@ -14,11 +14,16 @@ loop-w-preserved c =
     record {
       within = omega (arith, c.loop-w-test.true);
       done =
-          number_more c.args.lines.now.items c.loop-w.lines.items c.push_line.new.lines.items (unwritten_line c.args.context.now (flag_at c.args.flow.now.words) (flag_at c.args.flow.now.written)) c.loop-w.w c.loop-w.invariant.done
+          number_more c.args.lines.now.items c.loop-w.lines.items c.push_line.new.lines.items
+          (unwritten_line c.args.context.now (flag_at c.args.flow.now.words) (flag_at c.args.flow.now.written))
+          c.loop-w.w c.loop-w.invariant.done
           (c.in_ok-push_line.ensures ∙ ap (λ ls. c.loop-w.lines.items ++ ls) c.unwritten_line.ensures);
     }
 
 pub returns : goal.returns
 returns c =
     let end : c.loop-w.w ≡ c.args.count = omega (arith, c.loop-w-test.false, c.loop-w.invariant.within) in
-    c.loop-w.invariant.done ∙ ap (λ n. c.args.lines.now.items ++ flat_map (unwritten_line c.args.context.now (flag_at c.args.flow.now.words) (flag_at c.args.flow.now.written)) (numbers_below n)) end
+    c.loop-w.invariant.done ∙ ap
+    (λ n. c.args.lines.now.items
+    ++ flat_map (unwritten_line c.args.context.now (flag_at c.args.flow.now.words)
+    (flag_at c.args.flow.now.written)) (numbers_below n)) end

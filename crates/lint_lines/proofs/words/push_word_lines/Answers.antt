@@ -15,7 +15,8 @@ use Rattle.lint_lines.proofs.words.push_word_lines.Goals as goal
 
 pub push_outputs-requires-clause-words : goal.push_outputs-requires-clause-words
 push_outputs-requires-clause-words c =
-    ap (list_all (λ (o : ℕ × ℕ). nat_lt o.1 8)) c.outputs-2.ensures ∙ outputs_low c.args.mission.now.rules.blocks c.args.mission.now.outputs c.prove_sizes.ensures.outputs
+    ap (list_all (λ (o : ℕ × ℕ). nat_lt o.1 8)) c.outputs-2.ensures
+    ∙ outputs_low c.args.mission.now.rules.blocks c.args.mission.now.outputs c.prove_sizes.ensures.outputs
 
 pub returns : goal.returns
 unfolding word_lines
@@ -41,23 +42,33 @@ returns c =
     ∙ ap (λ n. is_depended_on n c.table-2.result.now.rows c.outputs.result.now w) c.block_count-blocks.ensures.value
     ∙ ap (λ (t : TableValue). is_depended_on M.rules.blocks t.rows c.outputs.result.now w) c.table-2.ensures
     ∙ ap (λ (os : List (ℕ × ℕ)). is_depended_on M.rules.blocks M.table os w) c.outputs.ensures in
-    four_appended old (silent_lines M) (output_lines M) (sensor_lines M) (unwritten_lines M) l1 l2 l3 c.push_unwritten.new.lines.items
+    four_appended old (silent_lines M) (output_lines M) (sensor_lines M) (unwritten_lines M) l1 l2 l3
+    c.push_unwritten.new.lines.items
     (c.in_ok-push_silent.ensures
     ∙ ap (λ n. old ++ flat_map (silent_line (flag_at flow.written) (flag_at dep)) (numbers_below n)) count
     ∙ ap (λ (ls : List LintLine). old ++ ls)
-    (numbers_alike (silent_line (flag_at flow.written) (flag_at dep)) (silent_line (is_written M.table) (is_depended_on M.rules.blocks M.table M.outputs)) (M.rules.blocks * 8)
-    (λ w low. silent_alike (flag_at flow.written) (flag_at dep) (is_written M.table) (is_depended_on M.rules.blocks M.table M.outputs) w (written w (small w low)) (depended w (small w low)))))
+    (numbers_alike (silent_line (flag_at flow.written) (flag_at dep))
+    (silent_line (is_written M.table) (is_depended_on M.rules.blocks M.table M.outputs)) (M.rules.blocks * 8)
+    (λ w low. silent_alike (flag_at flow.written) (flag_at dep) (is_written M.table)
+    (is_depended_on M.rules.blocks M.table M.outputs) w (written w (small w low)) (depended w (small w low)))))
     (c.in_ok-push_outputs.ensures
     ∙ ap (λ (os : List (ℕ × ℕ)). l1 ++ lists_from (output_line (flag_at flow.written)) 0 os) c.outputs-2.ensures
-    ∙ ap (λ (ls : List LintLine). l1 ++ ls) (outputs_alike (flag_at flow.written) (is_written M.table) M.rules.blocks 0 M.outputs few c.prove_sizes.ensures.outputs written))
+    ∙ ap (λ (ls : List LintLine). l1 ++ ls)
+    (outputs_alike (flag_at flow.written) (is_written M.table) M.rules.blocks 0 M.outputs few
+    c.prove_sizes.ensures.outputs written))
     (c.in_ok-push_sensors.ensures
     ∙ ap (λ n. l2 ++ flat_map (sensor_line (flag_at flow.inputs)) (numbers_below n)) c.width.ensures
     ∙ ap (λ (ls : List LintLine). l2 ++ ls)
     (numbers_alike (sensor_line (flag_at flow.inputs)) (sensor_line (is_input_read M.table)) M.width
     (λ k low. ap (λ t. cond t [] (UnreadSensor k ∷ [])) (inputs k (omega (arith, low, c.prove_sizes.ensures.narrow))))))
     (c.in_ok-push_unwritten.ensures
-    ∙ ap (λ n. l3 ++ flat_map (unwritten_line c.initial.result.now (flag_at flow.words) (flag_at flow.written)) (numbers_below n)) count
-    ∙ ap (λ (ctx : ContextValue). l3 ++ flat_map (unwritten_line ctx (flag_at flow.words) (flag_at flow.written)) (numbers_below (M.rules.blocks * 8))) c.initial.ensures
+    ∙ ap (λ n. l3 ++ flat_map (unwritten_line c.initial.result.now (flag_at flow.words) (flag_at flow.written))
+    (numbers_below n)) count
+    ∙ ap (λ (ctx : ContextValue). l3
+    ++ flat_map (unwritten_line ctx (flag_at flow.words) (flag_at flow.written))
+    (numbers_below (M.rules.blocks * 8))) c.initial.ensures
     ∙ ap (λ (ls : List LintLine). l3 ++ ls)
-    (numbers_alike (unwritten_line M.initial (flag_at flow.words) (flag_at flow.written)) (unwritten_line M.initial (is_read M.table) (is_written M.table)) (M.rules.blocks * 8)
-    (λ w low. unwritten_alike M.initial (flag_at flow.words) (flag_at flow.written) (is_read M.table) (is_written M.table) w (read w (small w low)) (written w (small w low)))))
+    (numbers_alike (unwritten_line M.initial (flag_at flow.words) (flag_at flow.written))
+    (unwritten_line M.initial (is_read M.table) (is_written M.table)) (M.rules.blocks * 8)
+    (λ w low. unwritten_alike M.initial (flag_at flow.words) (flag_at flow.written) (is_read M.table)
+    (is_written M.table) w (read w (small w low)) (written w (small w low)))))

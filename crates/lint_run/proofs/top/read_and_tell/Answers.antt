@@ -12,4 +12,10 @@ returns-in-Ok g c =
     let between = g.K.Sink.seen c.read_mission.new.out in
     let out' = g.K.Sink.seen c.tell.new.out in
     let read = subst (λ r. ReadsMission src src' out between r) c.in-Ok.is c.read_mission.ensures in
-    inr (read.0, c.in-Ok.mission, read.1, read.2, subst (λ (o : SinkView). LintsMission c.in-Ok.mission o out' c.tell.result) read.3 c.tell.ensures)
+    inr (
+      read.0,
+      c.in-Ok.mission,
+      read.1,
+      read.2,
+      subst (λ (o : SinkView). LintsMission c.in-Ok.mission o out' c.tell.result) read.3 c.tell.ensures,
+    )

@@ -14,7 +14,9 @@ returns g c =
     let after : SinkView = g.K.Sink.seen c.put-written.new.out in
     let lines : c.as_slice.result.now ≡ lint_of M = c.as_slice.ensures ∙ c.in-Ok.ensures in
     let again : c.as_slice-2.result.now ≡ lint_of M = c.as_slice-2.ensures ∙ c.in-Ok.ensures in
-    let text : c.as_str.result.now ≡ lint_text (lint_of M) = c.as_str.ensures ∙ c.in-Ok-lines_text.ensures ∙ ap (λ (ls : List LintLine). lint_text ls) lines in
+    let text : c.as_str.result.now ≡ lint_text (lint_of M) =
+    c.as_str.ensures ∙ c.in-Ok-lines_text.ensures ∙ ap (λ (ls : List LintLine). lint_text ls) lines in
     let warned : c.warn.result ≡ warns (lint_of M) = c.warn.ensures ∙ ap (λ (ls : List LintLine). warns ls) again in
     subst (λ (w : Bool). TellsLines (lint_text (lint_of M)) w before after c.told.result) warned
-    (subst (λ (t : TextValue). TellsLines t c.warn.result before after c.told.result) text (c.told.ensures c.as_str.result.now before after c.put-written.ensures))
+    (subst (λ (t : TextValue). TellsLines t c.warn.result before after c.told.result) text
+    (c.told.ensures c.as_str.result.now before after c.put-written.ensures))

@@ -23,5 +23,6 @@ loop-cycle-preserved c =
 pub returns-clause-value : goal.returns-clause-value
 returns-clause-value c =
     let r = c.args.rules.now in
-    let end : c.loop-cycle.cycle ≡ c.args.cycles = omega (arith, c.loop-cycle-test.false, c.loop-cycle.invariant.within) in
+    let end : c.loop-cycle.cycle ≡ c.args.cycles =
+    omega (arith, c.loop-cycle-test.false, c.loop-cycle.invariant.within) in
     c.loop-cycle.invariant.left ∙ ap (λ m. decayed_for r.law r.keep r.decrement m c.args.count) end

@@ -12,15 +12,18 @@ loop-before-preserved c =
     let n = c.loop-before.before in
     record {
       within = omega (arith, c.loop-before-test.true);
-      none = none_more (stays c.args.rules.now) n c.loop-before.invariant.none (sym c.stays_below.ensures ∙ c.if-stays_below.false);
+      none = none_more (stays c.args.rules.now) n c.loop-before.invariant.none
+          (sym c.stays_below.ensures ∙ c.if-stays_below.false);
     }
 
 pub returns-then-stays_below : goal.returns-then-stays_below
 returns-then-stays_below c = λ M same.
-    found_next (stays c.args.rules.now) c.loop-before.before c.loop-before.invariant.none c.loop-before-test.true (sym c.stays_below.ensures ∙ c.if-stays_below.true)
+    found_next (stays c.args.rules.now) c.loop-before.before c.loop-before.invariant.none c.loop-before-test.true
+    (sym c.stays_below.ensures ∙ c.if-stays_below.true)
     ∙ least_is M c.args.rules.now same
 
 pub returns : goal.returns
 returns c = λ M same.
-    found_none (stays c.args.rules.now) c.loop-before.before c.loop-before.invariant.none (omega (arith, c.loop-before-test.false, c.loop-before.invariant.within))
+    found_none (stays c.args.rules.now) c.loop-before.before c.loop-before.invariant.none
+    (omega (arith, c.loop-before-test.false, c.loop-before.invariant.within))
     ∙ least_is M c.args.rules.now same

@@ -24,7 +24,8 @@ loop-step-preserved c =
     let few = c.args.threshold - (n + 1) in
     let left : c.args.threshold - n ≡ suc few = omega (arith, c.loop-step-test.true) in
     let is = c.next_peak-next.ensures.value in
-    let up : count < next_peak r.law r.keep r.decrement c.args.period count = omega (arith, is, c.if-next-count.false) in
+    let up : count < next_peak r.law r.keep r.decrement c.args.period count =
+    omega (arith, is, c.if-next-count.false) in
     record {
       within = omega (arith, c.loop-step-test.true);
       small = omega (arith, c.if-threshold-count.false, c.next_peak-next.ensures.most, c.requires.few);
@@ -49,14 +50,17 @@ returns-then-next-count c =
     let count = c.loop-step.count in
     let few = c.args.threshold - c.loop-step.step in
     let some : 0 < few = omega (arith, c.loop-step-test.true) in
-    let low : next_peak r.law r.keep r.decrement c.args.period count ≤ count = omega (arith, c.next_peak-next.ensures.value, c.if-next-count.true) in
+    let low : next_peak r.law r.keep r.decrement c.args.period count ≤ count =
+    omega (arith, c.next_peak-next.ensures.value, c.if-next-count.true) in
     let below : count < r.threshold = omega (arith, c.requires.threshold, c.if-threshold-count.false) in
-    sym (ap (is_below r.threshold) (c.loop-step.invariant.peak ∙ steady_here r.law r.keep r.decrement c.args.period r.threshold few count some low)
+    sym (ap (is_below r.threshold)
+    (c.loop-step.invariant.peak ∙ steady_here r.law r.keep r.decrement c.args.period r.threshold few count some low)
     ∙ lt-ltb count r.threshold below)
 
 pub returns : goal.returns
 returns c =
     let r = c.args.rules.now in
-    let none : c.args.threshold - c.loop-step.step ≡ 0 = omega (arith, c.loop-step-test.false, c.loop-step.invariant.within) in
+    let none : c.args.threshold - c.loop-step.step ≡ 0 =
+    omega (arith, c.loop-step-test.false, c.loop-step.invariant.within) in
     sym (ap (is_below r.threshold) (c.loop-step.invariant.peak
     ∙ ap (λ n. peak_from r.law r.keep r.decrement n c.args.period c.loop-step.count) none))

@@ -17,4 +17,5 @@ returns c =
     three_appended old (join_lines M) (keep_lines M) (transfer_lines M) l1 l2 c.push_transfers.new.lines.items
     (c.in_ok-push_line.ensures ∙ ap (λ (ls : List LintLine). old ++ ls) c.join_line.ensures)
     (c.in_ok-push_line-2.ensures ∙ ap (λ (ls : List LintLine). l1 ++ ls) c.keep_line.ensures)
-    (c.in_ok-push_transfers.ensures ∙ ap (λ n. l2 ++ flat_map (λ row. length_line row (transfer_length M row)) (numbers_below n)) c.rows_of.ensures)
+    (c.in_ok-push_transfers.ensures
+    ∙ ap (λ n. l2 ++ flat_map (λ row. length_line row (transfer_length M row)) (numbers_below n)) c.rows_of.ensures)

@@ -19,8 +19,18 @@ returns-clause-stands c = λ cycles stands.
     ∙ ap (λ b. planned_blocks b c.sweep_of.result cycles) c.requires
     ∙ ap (λ s. planned_blocks M.rules.blocks s cycles) c.sweep_of.ensures.value in
     let set : c.distinct_blocks.result ≡ blocks_where (has list) =
-    c.distinct_blocks.ensures ∙ ap (λ (t : TableValue). blocks_where (has (map (λ write. write.block) (table_writes t c.args.cycle)))) c.table.ensures in
-    let few : mid.blocks ≤ 256 = omega (arith, c.wrote_all.ensures.blocks, c.requires, c.blocks_of-blocks.ensures.value, c.blocks_of-blocks.ensures.most) in
-    let noted : StandFor mid cycles (blocks_where (has list)) = subst (λ (ws : List ℕ). StandFor mid cycles ws) set (c.wrote_all.ensures.cycles cycles stands) in
+    c.distinct_blocks.ensures
+    ∙ ap (λ (t : TableValue). blocks_where (has (map (λ write. write.block) (table_writes t c.args.cycle))))
+    c.table.ensures in
+    let few : mid.blocks ≤ 256 =
+    omega (
+      arith,
+      c.wrote_all.ensures.blocks,
+      c.requires,
+      c.blocks_of-blocks.ensures.value,
+      c.blocks_of-blocks.ensures.most,
+    ) in
+    let noted : StandFor mid cycles (blocks_where (has list)) =
+    subst (λ (ws : List ℕ). StandFor mid cycles ws) set (c.wrote_all.ensures.cycles cycles stands) in
     subst (λ (p : List ℕ). StandFor new (record { planned = p; written = list } ∷ cycles) []) planned
     (c.close_cycle.ensures.cycles cycles list (stand_for_list mid cycles list few noted))

@@ -8,5 +8,6 @@ use Rattle.mission_lint.proofs.transfer.push_transfers.Given as goal
 abbrev pub invariant-loop-row : goal.invariant-loop-row
 invariant-loop-row l = record {
   within : l.row ≤ l.rows;
-  done : l.lines.items ≡ l.initial.lines.items ++ flat_map (λ row. length_line row (transfer_length l.mission row)) (numbers_below l.row);
+  done : l.lines.items ≡ l.initial.lines.items
+      ++ flat_map (λ row. length_line row (transfer_length l.mission row)) (numbers_below l.row);
 }

@@ -24,13 +24,22 @@ loop-before-preserved c =
     let inv = c.loop-before.invariant in
     let blocks = c.pass_cycle-remaining.ensures.blocks ∙ inv.blocks in
     let stands : StandFor new (transfer_cycles M row (n + 1)) [] =
-    one_longer M row n new (c.from.result + n) (ap (λ k. k + n) c.from.ensures) (c.pass_cycle-remaining.ensures.stands (transfer_cycles M row n) inv.stands) in
-    let more : M.rules.last < length new.remaining = omega (arith, c.if-remaining-last.false, c.pass_cycle-remaining.ensures.remaining, c.from-last.ensures, c.last_of.ensures) in
+    one_longer M row n new (c.from.result + n) (ap (λ k. k + n) c.from.ensures)
+    (c.pass_cycle-remaining.ensures.stands (transfer_cycles M row n) inv.stands) in
+    let more : M.rules.last < length new.remaining =
+    omega (
+      arith,
+      c.if-remaining-last.false,
+      c.pass_cycle-remaining.ensures.remaining,
+      c.from-last.ensures,
+      c.last_of.ensures,
+    ) in
     record {
       within = omega (arith, c.loop-before-test.true);
       blocks = blocks;
       stands = stands;
-      unfit = none_more (fits_after M row) n inv.unfit (fits_is M row n new blocks stands ∙ le_false (length new.remaining) M.rules.last more);
+      unfit = none_more (fits_after M row) n inv.unfit
+          (fits_is M row n new blocks stands ∙ le_false (length new.remaining) M.rules.last more);
     }
 
 pub returns-then-remaining-last : goal.returns-then-remaining-last
@@ -43,11 +52,21 @@ returns-then-remaining-last c =
     let inv = c.loop-before.invariant in
     let blocks = c.pass_cycle-remaining.ensures.blocks ∙ inv.blocks in
     let stands : StandFor new (transfer_cycles M row (n + 1)) [] =
-    one_longer M row n new (c.from.result + n) (ap (λ k. k + n) c.from.ensures) (c.pass_cycle-remaining.ensures.stands (transfer_cycles M row n) inv.stands) in
-    let fit : length new.remaining ≤ M.rules.last = omega (arith, c.if-remaining-last.true, c.pass_cycle-remaining.ensures.remaining, c.from-last.ensures, c.last_of.ensures) in
-    found_next (fits_after M row) n inv.unfit c.loop-before-test.true (fits_is M row n new blocks stands ∙ le-leb (length new.remaining) M.rules.last fit)
+    one_longer M row n new (c.from.result + n) (ap (λ k. k + n) c.from.ensures)
+    (c.pass_cycle-remaining.ensures.stands (transfer_cycles M row n) inv.stands) in
+    let fit : length new.remaining ≤ M.rules.last =
+    omega (
+      arith,
+      c.if-remaining-last.true,
+      c.pass_cycle-remaining.ensures.remaining,
+      c.from-last.ensures,
+      c.last_of.ensures,
+    ) in
+    found_next (fits_after M row) n inv.unfit c.loop-before-test.true
+    (fits_is M row n new blocks stands ∙ le-leb (length new.remaining) M.rules.last fit)
 
 pub returns : goal.returns
 unfolding transfer_length
 returns c =
-    found_none (fits_after c.args.mission.now c.args.row) c.loop-before.before c.loop-before.invariant.unfit (omega (arith, c.loop-before-test.false, c.loop-before.invariant.within))
+    found_none (fits_after c.args.mission.now c.args.row) c.loop-before.before c.loop-before.invariant.unfit
+    (omega (arith, c.loop-before-test.false, c.loop-before.invariant.within))

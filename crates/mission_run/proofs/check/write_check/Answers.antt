@@ -13,7 +13,8 @@ returns-in_err-put_head g c =
     let p = err_from_is_err_and c.from_residual.result c.from_residual.ensures.1 in
     let before : SinkView = g.K.Sink.seen c.args.out.now in
     let after : SinkView = g.K.Sink.seen c.put_head.new.out in
-    rw (p.1, p.2) (writes_stop before after (head_text c.args.mission.now) (texts_from row_text 0 c.args.mission.now.table) _ c.in_err-put_head.ensures)
+    rw (p.1, p.2) (writes_stop before after (head_text c.args.mission.now)
+    (texts_from row_text 0 c.args.mission.now.table) _ c.in_err-put_head.ensures)
 
 pub returns : goal.returns
 returns g c =
@@ -21,5 +22,7 @@ returns g c =
     let between : SinkView = g.K.Sink.seen c.put_head.new.out in
     let after : SinkView = g.K.Sink.seen c.put_rows.new.out in
     let rows : Writes between after (texts_from row_text 0 c.args.mission.now.table) c.put_rows.result =
-    subst (λ (table : List (List TaskValue)). Writes between after (texts_from row_text 0 table) c.put_rows.result) (ap (λ (t : TableValue). t.rows) c.table.ensures) c.put_rows.ensures in
-    writes_then before between after (head_text c.args.mission.now) (texts_from row_text 0 c.args.mission.now.table) c.put_rows.result c.in_ok-put_head.ensures rows
+    subst (λ (table : List (List TaskValue)). Writes between after (texts_from row_text 0 table) c.put_rows.result)
+    (ap (λ (t : TableValue). t.rows) c.table.ensures) c.put_rows.ensures in
+    writes_then before between after (head_text c.args.mission.now) (texts_from row_text 0 c.args.mission.now.table)
+    c.put_rows.result c.in_ok-put_head.ensures rows

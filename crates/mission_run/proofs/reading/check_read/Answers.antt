@@ -13,4 +13,10 @@ returns-in-Ok g c =
     let out' = g.K.Sink.seen c.write_check.new.out in
     let read = subst (λ r. ReadsMission src src' out between r) c.in-Ok.is c.read_mission.ensures in
     let told = c.told.ensures (check_of c.in-Ok.mission) between out' c.write_check.ensures in
-    inr (read.0, c.in-Ok.mission, read.1, read.2, subst (λ (o : SinkView). Tells (check_of c.in-Ok.mission) o out' c.told.result) read.3 told)
+    inr (
+      read.0,
+      c.in-Ok.mission,
+      read.1,
+      read.2,
+      subst (λ (o : SinkView). Tells (check_of c.in-Ok.mission) o out' c.told.result) read.3 told,
+    )

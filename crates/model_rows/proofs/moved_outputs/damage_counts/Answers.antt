@@ -4,7 +4,19 @@ use Rattle.model_rows.proofs.moved_outputs.damage_counts.Goals as goal
 
 pub returns-clause-due : goal.returns-clause-due
 unfolding run_on_literals
-returns-clause-due c = (record { cycle = refl; slot = refl; from = refl; to = refl; sent = refl }, (record { cycle = refl; slot = refl; from = refl; to = refl; sent = refl }, (record { cycle = refl; slot = refl; from = refl; to = refl; sent = refl }, (record { cycle = refl; slot = refl; from = refl; to = refl; sent = refl }, (record { cycle = refl; slot = refl; from = refl; to = refl; sent = refl }, tt)))))
+returns-clause-due c = (
+  record { cycle = refl; slot = refl; from = refl; to = refl; sent = refl },
+  (
+    record { cycle = refl; slot = refl; from = refl; to = refl; sent = refl },
+    (
+      record { cycle = refl; slot = refl; from = refl; to = refl; sent = refl },
+      (
+        record { cycle = refl; slot = refl; from = refl; to = refl; sent = refl },
+        (record { cycle = refl; slot = refl; from = refl; to = refl; sent = refl }, tt),
+      ),
+    ),
+  ),
+)
 
 pub returns-clause-disturbed : goal.returns-clause-disturbed
 unfolding run_on_literals

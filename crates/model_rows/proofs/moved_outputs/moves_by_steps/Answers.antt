@@ -8,7 +8,19 @@ use Rattle.model_rows.proofs.moved_outputs.moves_by_steps.Goals as goal
 
 pub returns-clause-is_mission : goal.returns-clause-is_mission
 unfolding run_on_literals
-returns-clause-is_mission c = record { rules = refl; cycles = refl; width = refl; return_after = refl; initial = refl; table = refl; outputs = refl; sensors = refl; script = refl; actuator = refl }
+returns-clause-is_mission c =
+    record {
+      rules = refl;
+      cycles = refl;
+      width = refl;
+      return_after = refl;
+      initial = refl;
+      table = refl;
+      outputs = refl;
+      sensors = refl;
+      script = refl;
+      actuator = refl;
+    }
 
 pub returns-clause-words : goal.returns-clause-words
 unfolding run_on_literals
@@ -28,7 +40,10 @@ returns-clause-due c = (
   record { cycle = refl; slot = refl; from = refl; to = refl; sent = refl },
   (
     record { cycle = refl; slot = refl; from = refl; to = refl; sent = refl },
-    (record { cycle = refl; slot = refl; from = refl; to = refl; sent = refl }, (record { cycle = refl; slot = refl; from = refl; to = refl; sent = refl }, tt)),
+    (
+      record { cycle = refl; slot = refl; from = refl; to = refl; sent = refl },
+      (record { cycle = refl; slot = refl; from = refl; to = refl; sent = refl }, tt),
+    ),
   ),
 )
 
@@ -38,7 +53,10 @@ returns-clause-due_last c = (
   record { cycle = refl; slot = refl; from = refl; to = refl; sent = refl },
   (
     record { cycle = refl; slot = refl; from = refl; to = refl; sent = refl },
-    (record { cycle = refl; slot = refl; from = refl; to = refl; sent = refl }, (record { cycle = refl; slot = refl; from = refl; to = refl; sent = refl }, tt)),
+    (
+      record { cycle = refl; slot = refl; from = refl; to = refl; sent = refl },
+      (record { cycle = refl; slot = refl; from = refl; to = refl; sent = refl }, tt),
+    ),
   ),
 )
 

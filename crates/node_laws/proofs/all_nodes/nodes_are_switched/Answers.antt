@@ -8,4 +8,5 @@ returns-clause-handed c = λ M L n steps mission. all_switched M L n steps missi
 
 pub returns-clause-after : goal.returns-clause-after
 returns-clause-after c = λ M earlier current n steps carried mission.
-    all_ended M (earlier ++ current) n steps (active_set M (cycle_at M (earlier ++ current) n ∷ cycles_before M (earlier ++ current) n)) mission
+    all_ended M (earlier ++ current) n steps
+    (active_set M (cycle_at M (earlier ++ current) n ∷ cycles_before M (earlier ++ current) n)) mission

@@ -11,7 +11,8 @@ pub returns-clause-answer : goal.returns-clause-answer
 returns-clause-answer c = λ M L n q. answers M L (cycles_before M L n) [] q (controls_follow M L n)
 
 pub returns-clause-last_copies : goal.returns-clause-last_copies
-returns-clause-last_copies c = λ M L n steps q. stands_at_final M L (cycles_before M L n) steps q (controls_follow M L n)
+returns-clause-last_copies c =
+    λ M L n steps q. stands_at_final M L (cycles_before M L n) steps q (controls_follow M L n)
 
 pub returns-clause-switches : goal.returns-clause-switches
 returns-clause-switches c = λ M L n steps q. stands_at_switch M L (cycles_before M L n) steps q (controls_follow M L n)

@@ -12,5 +12,6 @@ returns-in_ok-source-in-Up-clause-begun c done =
     let old = c.args.node.now in
     let M = c.args.mission.now in
     let up : mode_of_state old.state ≡ mode.Up = search rules in
-    let is : c.source.new.self ≡ changed (after_source old.channel M.width (sensor M old.channel c.args.cycle)) old = search rules in
+    let is : c.source.new.self ≡ changed (after_source old.channel M.width (sensor M old.channel c.args.cycle)) old =
+    search rules in
     begins M.width (sensor M old.channel c.args.cycle) old c.source.new.self up is

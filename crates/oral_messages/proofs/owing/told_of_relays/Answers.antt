@@ -9,7 +9,8 @@ use Rattle.oral_messages.proofs.owing.told_of_relays.Goals as goal
 use Rattle.oral_messages.proofs.owing.told_of_relays.Goals.{then-a-me+then-b-me+in_ok-push, then-a-me+else-b-me, else-a-me}
 
 pub loop-place-init : goal.loop-place-init
-loop-place-init c = front_none c.args.me c.args.values.now (paths c.args.members.now 2) c.reserve.new.self.items (c.reserve.ensures.items ∙ c.new-items.ensures.items)
+loop-place-init c = front_none c.args.me c.args.values.now (paths c.args.members.now 2) c.reserve.new.self.items
+    (c.reserve.ensures.items ∙ c.new-items.ensures.items)
 
 pub loop-place-preserved : goal.loop-place-preserved
 loop-place-preserved c =
@@ -17,21 +18,31 @@ loop-place-preserved c =
     let b = c.second_at-a.result.1 in
     elim c.if-a-me.branch [
       | then-a-me+then-b-me+in_ok-push w ↦
-          front_more c.args.me c.args.values.now (paths c.args.members.now 2) c.loop-place.items.items c.if-a-me.items.items c.loop-place.place (b ∷ a ∷ []) c.loop-place-test.true c.second_at-a.ensures
-          _ (apart_two a b c.args.me w.if-a-me.true w.if-b-me.true) (ap (λ v. v.items) w.items-is ∙ w.in_ok-push.ensures.pushed) (ap (λ v. let one : ItemValue = record { path = a ∷ b ∷ []; word = v } in one) (read_none c.args.values.now c.loop-place.place c.index-values-place.result c.loop-place-test.true c.index-values-place.is)) c.loop-place.invariant
+          front_more c.args.me c.args.values.now (paths c.args.members.now 2) c.loop-place.items.items
+          c.if-a-me.items.items c.loop-place.place (b ∷ a ∷ []) c.loop-place-test.true c.second_at-a.ensures
+          _ (apart_two a b c.args.me w.if-a-me.true w.if-b-me.true)
+          (ap (λ v. v.items) w.items-is ∙ w.in_ok-push.ensures.pushed)
+          (ap (λ v. let one : ItemValue = record { path = a ∷ b ∷ []; word = v } in one)
+          (read_none c.args.values.now c.loop-place.place c.index-values-place.result c.loop-place-test.true
+          c.index-values-place.is)) c.loop-place.invariant
       | then-a-me+else-b-me w ↦
-          front_same c.args.me c.args.values.now (paths c.args.members.now 2) c.loop-place.items.items c.if-a-me.items.items c.loop-place.place (b ∷ a ∷ []) c.loop-place-test.true c.second_at-a.ensures
+          front_same c.args.me c.args.values.now (paths c.args.members.now 2) c.loop-place.items.items
+          c.if-a-me.items.items c.loop-place.place (b ∷ a ∷ []) c.loop-place-test.true c.second_at-a.ensures
           (has_last a b c.args.me w.if-b-me.false) (ap (λ v. v.items) w.items-is) c.loop-place.invariant
       | else-a-me w ↦
-          front_same c.args.me c.args.values.now (paths c.args.members.now 2) c.loop-place.items.items c.if-a-me.items.items c.loop-place.place (b ∷ a ∷ []) c.loop-place-test.true c.second_at-a.ensures
+          front_same c.args.me c.args.values.now (paths c.args.members.now 2) c.loop-place.items.items
+          c.if-a-me.items.items c.loop-place.place (b ∷ a ∷ []) c.loop-place-test.true c.second_at-a.ensures
           (has_first a b c.args.me w.if-a-me.false) (ap (λ v. v.items) w.items-is) c.loop-place.invariant
     ]
 
 pub returns-clause-items : goal.returns-clause-items
-returns-clause-items c = front_all c.args.me c.args.values.now (paths c.args.members.now 2) c.loop-place.items.items c.loop-place.place (omega arith) c.loop-place.invariant
+returns-clause-items c = front_all c.args.me c.args.values.now (paths c.args.members.now 2) c.loop-place.items.items
+    c.loop-place.place (omega arith) c.loop-place.invariant
 
 pub returns-clause-range : goal.returns-clause-range
 returns-clause-range c =
-    relays_good c.args.members.now c.args.me c.requires.set c.requires.mine c.args.values.now c.values_fit.ensures c.loop-place.items.items
+    relays_good c.args.members.now c.args.me c.requires.set c.requires.mine c.args.values.now c.values_fit.ensures
+    c.loop-place.items.items
     (c.requires.many ∙ sym (sizes c.args.members.now c.requires.set).second)
-    (front_all c.args.me c.args.values.now (paths c.args.members.now 2) c.loop-place.items.items c.loop-place.place (omega arith) c.loop-place.invariant)
+    (front_all c.args.me c.args.values.now (paths c.args.members.now 2) c.loop-place.items.items c.loop-place.place
+    (omega arith) c.loop-place.invariant)

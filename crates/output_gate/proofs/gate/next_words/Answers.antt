@@ -22,7 +22,8 @@ value g c =
     c.of.ensures
     ∙ ap (λ m. take m c.moved_words-next.result) c.from.ensures
     ∙ ap (take n) c.moved_words-next.ensures
-    ∙ first_are (λ k. moved (word_of steps k) (word_of c.in_use.result.now k) (place_or wanted k None)) n (replicate (8 - n) (pos 0))
+    ∙ first_are (λ k. moved (word_of steps k) (word_of c.in_use.result.now k) (place_or wanted k None)) n
+    (replicate (8 - n) (pos 0))
     ∙ ap (λ (ws : List ℤ). moved_towards steps ws wanted n) c.in_use.ensures
     ∙ ap (moved_towards steps words wanted) size
     ∙ moves steps words frames wanted c.type_inv.frames voted
@@ -34,4 +35,5 @@ pub returns-clause-same : goal.returns-clause-same
 returns-clause-same g c =
     let words = c.args.words.now in
     ap (λ (ws : List ℤ). length ws) (value g c)
-    ∙ range_length (λ k. moved (word_of (take (length words) c.args.steps.now) k) (word_of words k) (wanted_at c.args.frames.now k)) 0 (length words)
+    ∙ range_length (λ k. moved (word_of (take (length words) c.args.steps.now) k) (word_of words k)
+    (wanted_at c.args.frames.now k)) 0 (length words)

@@ -5,7 +5,8 @@ use Rattle.picture_marks.proofs.MarkLists.{flat_range}
 use Rattle.picture_marks.proofs.spans.channel_lanes.Goals as goal
 
 pub loop-channel-preserved : goal.loop-channel-preserved
-loop-channel-preserved c = cc (flat_range channel_lanes c.loop-channel.channel, c.in_ok-push_channel.ensures, c.loop-channel.invariant)
+loop-channel-preserved c =
+    cc (flat_range channel_lanes c.loop-channel.channel, c.in_ok-push_channel.ensures, c.loop-channel.invariant)
 
 pub returns : goal.returns
 returns c =

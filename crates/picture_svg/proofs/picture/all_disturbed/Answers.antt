@@ -6,7 +6,8 @@ use Rattle.picture_svg.proofs.picture.all_disturbed.Goals as goal
 
 pub loop-number-preserved : goal.loop-number-preserved
 loop-number-preserved c =
-    text_step (disturbed_text c.args.x c.args.set) c.loop-number.number _ _ _ _ _ c.in-Some.ensures c.loop-number.invariant
+    text_step (disturbed_text c.args.x c.args.set) c.loop-number.number _ _ _ _ _ c.in-Some.ensures
+    c.loop-number.invariant
     c.in_ok-push_str.ensures.bytes c.deref.ensures c.in_ok-disturbed_text.ensures
 
 pub returns : goal.returns

@@ -6,10 +6,12 @@ use Rattle.picture_svg.proofs.picture.ticks_text.Goals as goal
 
 pub loop-number-preserved : goal.loop-number-preserved
 loop-number-preserved c =
-    text_step (λ k. tick_text c.args.width c.args.axis (k * tick_step c.args.cycles)) c.loop-number.number c.loop-number.number
+    text_step (λ k. tick_text c.args.width c.args.axis (k * tick_step c.args.cycles)) c.loop-number.number
+    c.loop-number.number
     _ _ _ _ refl c.loop-number.invariant c.in_ok-push_str.ensures.bytes c.deref.ensures
     (c.in_ok-tick_text.ensures
-    ∙ ap (λ every. tick_text c.args.width c.args.axis (c.loop-number.number * every)) (c.from-every.ensures ∙ c.tick_step.ensures.value))
+    ∙ ap (λ every. tick_text c.args.width c.args.axis (c.loop-number.number * every))
+    (c.from-every.ensures ∙ c.tick_step.ensures.value))
 
 pub returns : goal.returns
 unfolding ticks_text

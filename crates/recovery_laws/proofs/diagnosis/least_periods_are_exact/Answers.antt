@@ -17,4 +17,5 @@ pub returns-clause-none : goal.returns-clause-none
 returns-clause-none c M period mission is = none_reaches M mission is period
 
 pub returns-clause-there : goal.returns-clause-there
-returns-clause-there c M mission = (λ found. needs_decay M mission found.0 found.1, λ parts. least_there M mission parts.0 parts.1)
+returns-clause-there c M mission =
+    (λ found. needs_decay M mission found.0 found.1, λ parts. least_there M mission parts.0 parts.1)

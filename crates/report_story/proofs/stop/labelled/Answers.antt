@@ -2,4 +2,5 @@ use Rattle.std.proofs.Common.{◌∷◌}
 use Rattle.report_story.proofs.stop.labelled.Goals as goal
 
 pub returns : goal.returns
-returns c = λ label first rest h k e. c.piece-2.ensures.cut first rest k (c.piece.ensures.cut label (first ∷ rest) h e).1
+returns c = λ label first rest h k e.
+    c.piece-2.ensures.cut first rest k (c.piece.ensures.cut label (first ∷ rest) h e).1

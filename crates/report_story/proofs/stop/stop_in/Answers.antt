@@ -19,7 +19,8 @@ returns-clause-read c =
     let more = both (is_set s.set) (is_set s.active) parts.1 in
     let active = codes "active" ∷ set_text s.active ∷ [] in
     let set = codes "disturbed" ∷ set_text s.set ∷ active in
-    let a = c.labelled.ensures (codes "cycle") (decimal s.cycle) (codes "slot" ∷ slot_text s.slot ∷ set) refl (lacks-decimal 32 s.cycle refl) e in
+    let a = c.labelled.ensures (codes "cycle") (decimal s.cycle) (codes "slot" ∷ slot_text s.slot ∷ set) refl
+    (lacks-decimal 32 s.cycle refl) e in
     let b = c.labelled-2.ensures (codes "slot") (slot_text s.slot) set refl (lacks_slot s.slot) a.1 in
     let d = c.labelled-3.ensures (codes "disturbed") (set_text s.set) active refl (lacks_set s.set) b.1 in
     let f = c.labelled-4.ensures (codes "active") (set_text s.active) [] refl (lacks_set s.active) d.1 in

@@ -4,7 +4,12 @@ use Rattle.report_text.proofs.ListTexts.{members_next, members_all}
 use Rattle.report_text.proofs.pieces.members.Goals as goal
 
 pub loop-channel-preserved : goal.loop-channel-preserved
-loop-channel-preserved c = cc (members_next (λ q. (c.mask-mask.result / 2 ^ q) % 2 == 1) c.loop-channel.channel, c.in_ok-push_member.ensures, c.loop-channel.invariant)
+loop-channel-preserved c =
+    cc (
+      members_next (λ q. (c.mask-mask.result / 2 ^ q) % 2 == 1) c.loop-channel.channel,
+      c.in_ok-push_member.ensures,
+      c.loop-channel.invariant,
+    )
 
 pub returns : goal.returns
 returns c =

@@ -23,20 +23,32 @@ returns-clause-read c =
     let p = channel_parts c.args.sizes l form size in
     let a = c.piece.ensures.cut (decimal l.channel) (after_channel l) p.lacks_channel e in
     let b = c.labelled.ensures (codes "in") (words_text l.inputs) (after_inputs l) refl p.lacks_inputs a.1 in
-    let d = c.labelled-2.ensures (codes "vote") (join_with_byte 44 (map vote_text l.votes)) (after_votes l) refl p.lacks_votes b.1 in
+    let d = c.labelled-2.ensures (codes "vote") (join_with_byte 44 (map vote_text l.votes)) (after_votes l) refl
+    p.lacks_votes b.1 in
     let f = c.labelled-3.ensures (codes "judged") (set_text l.judged) (after_judged l) refl (lacks_set l.judged) d.1 in
-    let g = c.labelled-4.ensures (codes "alpha") (join_with_byte 44 (map decimal l.counts)) [] refl p.lacks_counts f.1 in
+    let g = c.labelled-4.ensures (codes "alpha") (join_with_byte 44 (map decimal l.counts)) [] refl p.lacks_counts
+    f.1 in
     let chan : c.in-Some.chan ≡ l.channel = cc (c.channel.ensures l.channel p.channel a.0, c.in-Some.is) in
     let inputs = c.inputs.ensures.read l.inputs p.inputs p.width b.0 in
     let votes = c.votes.ensures.read l.votes p.votes p.outputs d.0 in
     let judged = c.set.ensures.read l.judged p.judged f.0 in
     let counts = c.counts.ensures.read l.counts p.counts p.channels g.0 in
-    λ i. Some (channel_told (record { channel = chan i; inputs = inputs i; votes = votes i; judged = judged i; counts = counts i }))
+    λ i. Some (channel_told (record {
+      channel = chan i;
+      inputs = inputs i;
+      votes = votes i;
+      judged = judged i;
+      counts = counts i;
+    }))
 
 pub returns-clause-formed : goal.returns-clause-formed
 returns-clause-formed c =
-    channel_formed c.args.sizes c.in-Some.chan c.inputs.result c.votes.result c.set.result c.counts.result (le-leb (suc c.in-Some.chan) 7 (omega arith))
-    (some_taken is_word c.inputs.result c.args.sizes.width c.inputs.ensures.formed (omega arith) (omega (arith, c.inputs.ensures.whole)))
-    (some_taken is_cast c.votes.result c.args.sizes.outputs c.votes.ensures.formed (omega arith) (omega (arith, c.votes.ensures.whole)))
+    channel_formed c.args.sizes c.in-Some.chan c.inputs.result c.votes.result c.set.result c.counts.result
+    (le-leb (suc c.in-Some.chan) 7 (omega arith))
+    (some_taken is_word c.inputs.result c.args.sizes.width c.inputs.ensures.formed (omega arith)
+    (omega (arith, c.inputs.ensures.whole)))
+    (some_taken is_cast c.votes.result c.args.sizes.outputs c.votes.ensures.formed (omega arith)
+    (omega (arith, c.votes.ensures.whole)))
     c.set.ensures.formed
-    (some_taken is_small c.counts.result c.args.sizes.channels c.counts.ensures.formed (omega arith) (omega (arith, c.counts.ensures.whole)))
+    (some_taken is_small c.counts.result c.args.sizes.channels c.counts.ensures.formed (omega arith)
+    (omega (arith, c.counts.ensures.whole)))

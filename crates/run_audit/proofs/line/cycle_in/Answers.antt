@@ -15,8 +15,11 @@ returns-clause-read c =
     λ s cycle active running form size e.
     let parts = both (is_small cycle) (is_set active && if_there is_transfer running) form in
     let more = both (is_set active) (if_there is_transfer running) parts.1 in
-    let a = c.piece.ensures.cut (decimal cycle) (codes "active" ∷ set_text active ∷ codes "transfer" ∷ transfer_text running ∷ []) (lacks-decimal 32 cycle refl) e in
-    let b = c.labelled.ensures (codes "active") (set_text active) (codes "transfer" ∷ transfer_text running ∷ []) refl (lacks_set active) a.1 in
+    let a = c.piece.ensures.cut (decimal cycle)
+    (codes "active" ∷ set_text active ∷ codes "transfer" ∷ transfer_text running ∷ []) (lacks-decimal 32 cycle refl)
+    e in
+    let b = c.labelled.ensures (codes "active") (set_text active) (codes "transfer" ∷ transfer_text running ∷ []) refl
+    (lacks_set active) a.1 in
     let d = c.labelled-2.ensures (codes "transfer") (transfer_text running) [] refl (lacks_transfer running) b.1 in
     let n = c.number.ensures.read cycle (leb-true (suc cycle) (2 ^ 32) parts.0) a.0 in
     let set = c.set.ensures.read active more.0 b.0 in

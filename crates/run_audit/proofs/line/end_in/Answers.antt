@@ -12,8 +12,10 @@ returns-clause-read c =
     λ s removed joined left form size e.
     let parts = both (is_set removed) (is_set joined && if_there is_small left) form in
     let more = both (is_set joined) (if_there is_small left) parts.1 in
-    let a = c.labelled.ensures (codes "removed") (set_text removed) (codes "joined" ∷ set_text joined ∷ codes "remaining" ∷ remaining_text left ∷ []) refl (lacks_set removed) e in
-    let b = c.labelled-2.ensures (codes "joined") (set_text joined) (codes "remaining" ∷ remaining_text left ∷ []) refl (lacks_set joined) a.1 in
+    let a = c.labelled.ensures (codes "removed") (set_text removed)
+    (codes "joined" ∷ set_text joined ∷ codes "remaining" ∷ remaining_text left ∷ []) refl (lacks_set removed) e in
+    let b = c.labelled-2.ensures (codes "joined") (set_text joined) (codes "remaining" ∷ remaining_text left ∷ []) refl
+    (lacks_set joined) a.1 in
     let d = c.labelled-3.ensures (codes "remaining") (remaining_text left) [] refl (lacks_remaining left) b.1 in
     let gone = c.set.ensures.read removed parts.0 a.0 in
     let come = c.set-2.ensures.read joined more.0 b.0 in

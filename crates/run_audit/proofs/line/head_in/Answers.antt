@@ -11,7 +11,8 @@ pub returns-clause-read : goal.returns-clause-read
 returns-clause-read c =
     λ s channels cycles form size e.
     let parts = both (is_small channels) (is_small cycles) form in
-    let a = c.labelled.ensures (codes "channels") (decimal channels) (codes "cycles" ∷ decimal cycles ∷ []) refl (lacks-decimal 32 channels refl) e in
+    let a = c.labelled.ensures (codes "channels") (decimal channels) (codes "cycles" ∷ decimal cycles ∷ []) refl
+    (lacks-decimal 32 channels refl) e in
     let b = c.labelled-2.ensures (codes "cycles") (decimal cycles) [] refl (lacks-decimal 32 cycles refl) a.1 in
     let n = c.small_number.ensures channels (leb-true (suc channels) (2 ^ 8) size) a.0 in
     let m = c.number.ensures.read cycles (leb-true (suc cycles) (2 ^ 32) parts.1) b.0 in

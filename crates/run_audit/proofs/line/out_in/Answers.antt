@@ -14,7 +14,10 @@ returns-clause-read c =
     λ ws form size e.
     let a = c.piece.ensures.cut (words_text ws) [] (plain_lacks_all 32 (words_text ws) refl (plain-words ws)) e in
     let formed = both (not (is_empty ws)) (list_all is_word ws) form in
-    ap (λ words. Some (out_told words)) (c.words.ensures.read ws formed.1 (eqb-true (length ws) c.args.sizes.outputs size) a.0)
+    ap (λ words. Some (out_told words))
+    (c.words.ensures.read ws formed.1 (eqb-true (length ws) c.args.sizes.outputs size) a.0)
 
 pub returns-clause-formed : goal.returns-clause-formed
-returns-clause-formed c = some_taken is_word c.words.result c.args.sizes.outputs c.words.ensures.formed (omega arith) (omega (arith, c.words.ensures.whole))
+returns-clause-formed c =
+    some_taken is_word c.words.result c.args.sizes.outputs c.words.ensures.formed (omega arith)
+    (omega (arith, c.words.ensures.whole))

@@ -11,6 +11,7 @@ invariant-loop-place l = record {
   whole : length l.counts ≡ 7;
   formed : list_all is_small l.counts ≡ true;
   text : IsUtf8 l.rest;
-  read : (ns : List ℕ) → list_all is_small ns ≡ true → length ns ≡ l.channels → l.text ≡ join_with_byte 44 (map decimal ns) →
+  read : (ns : List ℕ) → list_all is_small ns ≡ true → length ns ≡ l.channels →
+      l.text ≡ join_with_byte 44 (map decimal ns) →
       (l.rest ≡ join_with_byte 44 (map decimal (drop l.place ns))) × (take l.place l.counts ≡ take l.place ns);
 }

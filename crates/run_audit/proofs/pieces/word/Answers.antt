@@ -10,7 +10,8 @@ use Rattle.run_audit.proofs.pieces.word.Goals as goal
 pub returns-clause-read : goal.returns-clause-read
 returns-clause-read c =
     let fits : SFits w64 c.unwrap_or.result = search rules in
-    λ w h e. to_z-of_z w64 c.unwrap_or.result fits ∙ c.unwrap_or.ensures ∙ word_read w c.args.text.now c.parse.result (pos 0) h e c.parse.ensures.value.0
+    λ w h e. to_z-of_z w64 c.unwrap_or.result fits ∙ c.unwrap_or.ensures
+    ∙ word_read w c.args.text.now c.parse.result (pos 0) h e c.parse.ensures.value.0
 
 pub returns-clause-formed : goal.returns-clause-formed
 returns-clause-formed c =

@@ -11,5 +11,6 @@ invariant-loop-place l = record {
   whole : length l.words ≡ 8;
   formed : list_all is_word l.words ≡ true;
   text : IsUtf8 l.rest;
-  read : (ws : List ℤ) → list_all is_word ws ≡ true → length ws ≡ l.count → l.text ≡ words_text ws → (l.rest ≡ words_text (drop l.place ws)) × (take l.place l.words ≡ take l.place ws);
+  read : (ws : List ℤ) → list_all is_word ws ≡ true → length ws ≡ l.count → l.text ≡ words_text ws →
+      (l.rest ≡ words_text (drop l.place ws)) × (take l.place l.words ≡ take l.place ws);
 }

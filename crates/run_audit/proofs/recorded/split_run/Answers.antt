@@ -5,20 +5,23 @@ use Rattle.run_audit.proofs.recorded.split_run.Goals as goal
 
 pub returns-then-is_mark-clause-mission : goal.returns-then-is_mark-clause-mission
 returns-then-is_mark-clause-mission c =
-    (cut_here c.args.input.now c.loop-line.rest.now c.split_at.result.0.now c.split_at.result.1.now c.loop-line.invariant
+    (cut_here c.args.input.now c.loop-line.rest.now c.split_at.result.0.now c.split_at.result.1.now
+    c.loop-line.invariant
     (c.line_len.ensures.cut ∙ (λ i. sym c.split_at.ensures.front i ∷ lines_in (sym c.split_at.ensures.back i)))
     (sym c.is_mark.ensures ∙ c.if-is_mark.true)).0
 
 pub returns-then-is_mark-clause-trace : goal.returns-then-is_mark-clause-trace
 returns-then-is_mark-clause-trace c =
-    (cut_here c.args.input.now c.loop-line.rest.now c.split_at.result.0.now c.split_at.result.1.now c.loop-line.invariant
+    (cut_here c.args.input.now c.loop-line.rest.now c.split_at.result.0.now c.split_at.result.1.now
+    c.loop-line.invariant
     (c.line_len.ensures.cut ∙ (λ i. sym c.split_at.ensures.front i ∷ lines_in (sym c.split_at.ensures.back i)))
     (sym c.is_mark.ensures ∙ c.if-is_mark.true)).1
 
 pub loop-line-preserved : goal.loop-line-preserved
 loop-line-preserved c =
     goes_on c.args.input.now c.loop-line.rest.now c.split_at.result.0.now c.split_at.result.1.now c.loop-line.invariant
-    (parts_back c.line_len.result c.loop-line.rest.now ∙ (λ i. sym c.split_at.ensures.front i ++ sym c.split_at.ensures.back i))
+    (parts_back c.line_len.result c.loop-line.rest.now
+    ∙ (λ i. sym c.split_at.ensures.front i ++ sym c.split_at.ensures.back i))
     (c.line_len.ensures.cut ∙ (λ i. sym c.split_at.ensures.front i ∷ lines_in (sym c.split_at.ensures.back i)))
     (sym c.is_mark.ensures ∙ c.if-is_mark.false)
 

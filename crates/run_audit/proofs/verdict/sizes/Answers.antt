@@ -2,7 +2,8 @@ use Rattle.std.proofs.Common.{arith}
 use Rattle.run_audit.proofs.verdict.sizes.Goals as goal
 
 pub returns-clause-value : goal.returns-clause-value
-returns-clause-value c = λ i. record { channels = c.channels.ensures i; width = c.width.ensures i; outputs = c.outputs.ensures i }
+returns-clause-value c = λ i.
+    record { channels = c.channels.ensures i; width = c.width.ensures i; outputs = c.outputs.ensures i }
 
 pub returns-clause-used : goal.returns-clause-used
 returns-clause-used c =

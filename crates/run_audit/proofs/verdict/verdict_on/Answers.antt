@@ -15,29 +15,39 @@ pub returns-in_default : goal.returns-in_default
 returns-in_default g c =
     let v = c.loop-rest.invariant in
     let now : List ℕ = take c.line_len.result c.loop-rest.rest.now in
-    stops_here c.args.mission.now c.args.trace.now c.loop-rest.rest.now c.loop-rest.line v.0 v.2 now (drop c.line_len.result c.loop-rest.rest.now) c.line_len.ensures.cut
+    stops_here c.args.mission.now c.args.trace.now c.loop-rest.rest.now c.loop-rest.line v.0 v.2 now
+    (drop c.line_len.result c.loop-rest.rest.now) c.line_len.ensures.cut
     (unread c.args.mission.now v.0 c.loop-rest.auditor now c.prove_sizes.ensures.seven c.prove_mission.ensures v.1
-    (reads_none c.sizes.result (sizes_of c.args.mission.now) now c.split_at.result.0.now c.in_ok-read.field-0 c.in_ok-read.ensures c.in_default.is c.sizes.ensures.value c.split_at.ensures.front))
+    (reads_none c.sizes.result (sizes_of c.args.mission.now) now c.split_at.result.0.now c.in_ok-read.field-0
+    c.in_ok-read.ensures c.in_default.is c.sizes.ensures.value c.split_at.ensures.front))
 
 pub returns-then-not-take : goal.returns-then-not-take
 returns-then-not-take g c =
     let v = c.loop-rest.invariant in
     let now : List ℕ = take c.line_len.result c.loop-rest.rest.now in
-    stops_here c.args.mission.now c.args.trace.now c.loop-rest.rest.now c.loop-rest.line v.0 v.2 now (drop c.line_len.result c.loop-rest.rest.now) c.line_len.ensures.cut
+    stops_here c.args.mission.now c.args.trace.now c.loop-rest.rest.now c.loop-rest.line v.0 v.2 now
+    (drop c.line_len.result c.loop-rest.rest.now) c.line_len.ensures.cut
     (unsuited c.args.mission.now v.0 now (line_value (sizes_of c.args.mission.now) c.in-Some.read)
-    (reads_some c.sizes.result (sizes_of c.args.mission.now) now c.split_at.result.0.now c.in_ok-read.field-0 c.in-Some.read c.in_ok-read.ensures c.in-Some.is c.sizes.ensures.value c.split_at.ensures.front)
-    (not_taken c.args.mission.now v.0 (line_value (sizes_of c.args.mission.now) c.in-Some.read) c.take.new.auditor c.take.result (c.take.ensures v.0 v.1) c.if-not-take.true))
+    (reads_some c.sizes.result (sizes_of c.args.mission.now) now c.split_at.result.0.now c.in_ok-read.field-0
+    c.in-Some.read c.in_ok-read.ensures c.in-Some.is c.sizes.ensures.value c.split_at.ensures.front)
+    (not_taken c.args.mission.now v.0 (line_value (sizes_of c.args.mission.now) c.in-Some.read) c.take.new.auditor
+    c.take.result (c.take.ensures v.0 v.1) c.if-not-take.true))
 
 pub loop-rest-preserved : goal.loop-rest-preserved
 loop-rest-preserved g c =
     let v = c.loop-rest.invariant in
     let now : List ℕ = take c.line_len.result c.loop-rest.rest.now in
-    let done = taken c.args.mission.now v.0 (line_value (sizes_of c.args.mission.now) c.in-Some.read) c.take.new.auditor c.take.result (c.take.ensures v.0 v.1) c.if-not-take.false in
-    let read = reads_some c.sizes.result (sizes_of c.args.mission.now) now c.split_at.result.0.now c.in_ok-read.field-0 c.in-Some.read c.in_ok-read.ensures c.in-Some.is c.sizes.ensures.value c.split_at.ensures.front in
-    let leads = leads_on c.args.mission.now v.0 (line_value (sizes_of c.args.mission.now) c.in-Some.read) (line_is now (line_value (sizes_of c.args.mission.now) c.in-Some.read) read).1 done.0 v.3 in (
+    let done = taken c.args.mission.now v.0 (line_value (sizes_of c.args.mission.now) c.in-Some.read) c.take.new.auditor
+    c.take.result (c.take.ensures v.0 v.1) c.if-not-take.false in
+    let read = reads_some c.sizes.result (sizes_of c.args.mission.now) now c.split_at.result.0.now c.in_ok-read.field-0
+    c.in-Some.read c.in_ok-read.ensures c.in-Some.is c.sizes.ensures.value c.split_at.ensures.front in
+    let leads = leads_on c.args.mission.now v.0 (line_value (sizes_of c.args.mission.now) c.in-Some.read)
+    (line_is now (line_value (sizes_of c.args.mission.now) c.in-Some.read) read).1 done.0 v.3 in (
       following_place c.args.mission.now v.0 (line_value (sizes_of c.args.mission.now) c.in-Some.read),
       done.1,
-      goes_on c.args.mission.now c.args.trace.now c.loop-rest.rest.now c.loop-rest.line v.0 v.2 now c.split_at.result.1.now (following_place c.args.mission.now v.0 (line_value (sizes_of c.args.mission.now) c.in-Some.read))
+      goes_on c.args.mission.now c.args.trace.now c.loop-rest.rest.now c.loop-rest.line v.0 v.2 now
+          c.split_at.result.1.now (following_place c.args.mission.now v.0
+          (line_value (sizes_of c.args.mission.now) c.in-Some.read))
           (c.line_len.ensures.cut ∙ ap (λ xs. now ∷ lines_in xs) (sym c.split_at.ensures.back))
           (suited c.args.mission.now v.0 now (line_value (sizes_of c.args.mission.now) c.in-Some.read) read done.0),
       leads.placed,
@@ -47,7 +57,13 @@ loop-rest-preserved g c =
 pub overflow_add-line : goal.overflow_add-line
 overflow_add-line g c =
     let v = c.loop-rest.invariant in
-    let most : c.loop-rest.line ≤ 3 + 17 * 2000 = omega (arith, v.4, rank_low c.args.mission.now v.0 v.3, cycles_few c.args.mission.now c.prove_mission.ensures) in
+    let most : c.loop-rest.line ≤ 3 + 17 * 2000 =
+    omega (
+      arith,
+      v.4,
+      rank_low c.args.mission.now v.0 v.3,
+      cycles_few c.args.mission.now c.prove_mission.ensures,
+    ) in
     omega arith
 
 pub take-requires : goal.take-requires
@@ -59,9 +75,13 @@ read_line-requires g c = c.sizes.ensures.used
 pub returns-then-is_over : goal.returns-then-is_over
 returns-then-is_over g c =
     let v = c.loop-rest.invariant in
-    over c.args.mission.now c.args.trace.now c.loop-rest.rest.now c.loop-rest.line v.0 v.2 (no_lines c.loop-rest.rest.now (search rules)) (sym (c.is_over.ensures c.args.mission.now v.0 v.1) ∙ c.if-is_over.true)
+    over c.args.mission.now c.args.trace.now c.loop-rest.rest.now c.loop-rest.line v.0 v.2
+    (no_lines c.loop-rest.rest.now (search rules))
+    (sym (c.is_over.ensures c.args.mission.now v.0 v.1) ∙ c.if-is_over.true)
 
 pub returns : goal.returns
 returns g c =
     let v = c.loop-rest.invariant in
-    early c.args.mission.now c.args.trace.now c.loop-rest.rest.now c.loop-rest.line v.0 v.2 (no_lines c.loop-rest.rest.now (search rules)) (sym (c.is_over.ensures c.args.mission.now v.0 v.1) ∙ c.if-is_over.false)
+    early c.args.mission.now c.args.trace.now c.loop-rest.rest.now c.loop-rest.line v.0 v.2
+    (no_lines c.loop-rest.rest.now (search rules))
+    (sym (c.is_over.ensures c.args.mission.now v.0 v.1) ∙ c.if-is_over.false)

@@ -9,6 +9,7 @@ use Rattle.slot_traffic.proofs.parcel.readings.Given as goal
 abbrev pub invariant-loop-piece : goal.invariant-loop-piece
 invariant-loop-piece l = record {
   same : (f : FrameValue) → IsTrue (in_range f) →
-      map (reading_value f) l.readings.items ≡ map spelled_by (map (piece_value (spelling f)) (take l.piece-index l.pieces));
+      map (reading_value f) l.readings.items
+      ≡ map spelled_by (map (piece_value (spelling f)) (take l.piece-index l.pieces));
   range : AllByRecursion IsReadingInRange l.readings.items;
 }

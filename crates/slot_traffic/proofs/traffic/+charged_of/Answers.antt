@@ -5,7 +5,8 @@ use Rattle.slot_traffic.proofs.Charging.{charges, nobody, none_charged, one_char
 use Rattle.slot_traffic.proofs.traffic.+charged_of.Goals as goal
 
 pub returns-in_default : goal.returns-in_default
-returns-in_default t c = λ c' slot. c.empty.ensures ∙ nobody c' slot ∙ ap (λ xs. channels_where (charges c' slot xs)) (sym (no_items c.args.parcels.now c.in_default.ensures.cases))
+returns-in_default t c = λ c' slot. c.empty.ensures ∙ nobody c' slot
+    ∙ ap (λ xs. channels_where (charges c' slot xs)) (sym (no_items c.args.parcels.now c.in_default.ensures.cases))
 
 pub returns-then-is_changed : goal.returns-then-is_changed
 returns-then-is_changed t c = λ c' slot.

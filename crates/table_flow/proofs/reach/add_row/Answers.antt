@@ -19,13 +19,18 @@ loop-place-preserved c =
     let task = c.task.result.now in
     let low : at < length tasks = omega (arith, c.loop-place-test.true, c.row_len-place-end.ensures.count) in
     let this : get_or tasks at task ≡ task = get_or_from_slice_get tasks at task task c.task.ensures in
-    flows_more (flag_at c.args.kept.now) tasks at task c.args.flow.now c.loop-place.flow c.add_task.new.flow task_assignments low c.loop-place.invariant
-    (subst (λ (t : TaskValue). FlowsInto (flag_at c.args.kept.now) (task_assignments t) c.loop-place.flow c.add_task.new.flow) (sym this) c.add_task.ensures)
+    flows_more (flag_at c.args.kept.now) tasks at task c.args.flow.now c.loop-place.flow c.add_task.new.flow
+    task_assignments low c.loop-place.invariant
+    (subst (λ (t : TaskValue).
+    FlowsInto (flag_at c.args.kept.now) (task_assignments t) c.loop-place.flow c.add_task.new.flow) (sym this)
+    c.add_task.ensures)
 
 pub returns : goal.returns
 unfolding row_assignments
 returns c =
     let tasks = tasks_in_row c.args.table.now.rows c.args.row in
-    let end : length tasks ≤ c.loop-place.place = omega (arith, c.loop-place-test.false, c.row_len-place-end.ensures.count) in
-    subst (λ (ts : List TaskValue). FlowsInto (flag_at c.args.kept.now) (flat_map task_assignments ts) c.args.flow.now c.loop-place.flow)
+    let end : length tasks ≤ c.loop-place.place =
+    omega (arith, c.loop-place-test.false, c.row_len-place-end.ensures.count) in
+    subst (λ (ts : List TaskValue).
+    FlowsInto (flag_at c.args.kept.now) (flat_map task_assignments ts) c.args.flow.now c.loop-place.flow)
     (take_all c.loop-place.place tasks end) c.loop-place.invariant

@@ -6,4 +6,5 @@ use Rattle.table_flow.specs.Flow.{FlowsInto, task_assignments}
 use Rattle.table_flow.proofs.reach.add_row.Given as goal
 
 abbrev pub invariant-loop-place : goal.invariant-loop-place
-invariant-loop-place l = FlowsInto (flag_at l.kept) (flat_map task_assignments (take l.place (tasks_in_row l.table.rows l.row))) l.initial.flow l.flow
+invariant-loop-place l = FlowsInto (flag_at l.kept)
+    (flat_map task_assignments (take l.place (tasks_in_row l.table.rows l.row))) l.initial.flow l.flow

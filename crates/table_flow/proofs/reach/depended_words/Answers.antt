@@ -19,5 +19,7 @@ loop-step-preserved c =
 
 pub returns : goal.returns
 returns c = λ w low.
-    let end : c.loop-step.step ≡ c.args.blocks * 8 = omega (arith, c.loop-step-test.false, c.loop-step.invariant.within) in
-    c.loop-step.invariant.reached w low ∙ ap (λ n. depends_within (assignments c.args.table.now.rows) c.args.outputs.now n w) end
+    let end : c.loop-step.step ≡ c.args.blocks * 8 =
+    omega (arith, c.loop-step-test.false, c.loop-step.invariant.within) in
+    c.loop-step.invariant.reached w low
+    ∙ ap (λ n. depends_within (assignments c.args.table.now.rows) c.args.outputs.now n w) end

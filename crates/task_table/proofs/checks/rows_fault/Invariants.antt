@@ -4,4 +4,5 @@ use Rattle.task_table.specs.Tables.{places_of}
 use Rattle.task_table.proofs.checks.rows_fault.Given as goal
 
 abbrev pub invariant-loop-number : goal.invariant-loop-number
-invariant-loop-number l = first_fault row_fault 0 (places_of l.rows) ≡ first_fault row_fault l.number (drop l.number (places_of l.rows))
+invariant-loop-number l =
+    first_fault row_fault 0 (places_of l.rows) ≡ first_fault row_fault l.number (drop l.number (places_of l.rows))

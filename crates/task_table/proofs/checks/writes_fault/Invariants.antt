@@ -3,4 +3,6 @@ use Rattle.task_table.specs.TableFaults.{first_fault, write_fault}
 use Rattle.task_table.proofs.checks.writes_fault.Given as goal
 
 abbrev pub invariant-loop-number : goal.invariant-loop-number
-invariant-loop-number l = first_fault (write_fault l.blocks l.task) 0 l.writes ≡ first_fault (write_fault l.blocks l.task) l.number (drop l.number l.writes)
+invariant-loop-number l =
+    first_fault (write_fault l.blocks l.task) 0 l.writes
+    ≡ first_fault (write_fault l.blocks l.task) l.number (drop l.number l.writes)

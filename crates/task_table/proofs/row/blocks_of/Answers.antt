@@ -23,13 +23,18 @@ loop-place-preserved c =
     let this = nth_task tasks (get_or row at 0) in
     let writes = c.as_slice.result.now in
     let same : this.writes ≡ writes =
-    ap (λ t. t.writes) (task_read tasks row at c.index-tasks-place.result c.requires c.loop-place-test.true c.index-tasks-place.is)
+    ap (λ t. t.writes) (task_read tasks row at c.index-tasks-place.result c.requires c.loop-place-test.true
+    c.index-tasks-place.is)
     ∙ sym (ap (λ t. t.writes) c.task.view_is) ∙ sym c.as_slice.ensures in
     let done = blocks_in (named_writes tasks (take at row)) in
     let more : blocks_in (named_writes tasks (take (at + 1) row)) ≡ done ++ blocks_in writes =
-    ap blocks_in (named_more tasks row at 0 c.loop-place-test.true) ∙ map-append (λ (w : WriteValue). w.block) (named_writes tasks (take at row)) this.writes
+    ap blocks_in (named_more tasks row at 0 c.loop-place-test.true)
+    ∙ map-append (λ (w : WriteValue). w.block) (named_writes tasks (take at row)) this.writes
     ∙ ap (λ ws. done ++ blocks_in ws) same in
     record {
-      set = c.insert_blocks.ensures.set (has done) c.loop-place.invariant.set ∙ both_added done (blocks_in writes) ∙ ap (λ xs. blocks_where (has xs)) (sym more);
-      low = ap (list_all (λ b. nat_lt b 256)) more ∙ all-append (λ b. nat_lt b 256) done (blocks_in writes) c.loop-place.invariant.low c.insert_blocks.ensures.low;
+      set = c.insert_blocks.ensures.set (has done) c.loop-place.invariant.set ∙ both_added done (blocks_in writes)
+          ∙ ap (λ xs. blocks_where (has xs)) (sym more);
+      low = ap (list_all (λ b. nat_lt b 256)) more
+          ∙ all-append (λ b. nat_lt b 256) done (blocks_in writes) c.loop-place.invariant.low
+          c.insert_blocks.ensures.low;
     }

@@ -7,9 +7,12 @@ use Rattle.task_table.proofs.RowWrites.{named_writes, write_here, write_later, t
 use Rattle.task_table.proofs.row.find_write.Goals as goal
 
 -- the writes of the task that is read
-writes_read : (tasks : List TaskValue) (row : List ℕ) (at : ℕ) (task : TaskValue) (writes inside : List WriteValue) → names_tasks (length tasks) row ≡ true → at < length row →
-    task ≡ get_or tasks (get_or row at 0) task → inside ≡ task.writes → writes ≡ inside → (nth_task tasks (get_or row at 0)).writes ≡ writes
-writes_read tasks row at task writes inside named low is view now = ap (λ t. t.writes) (task_read tasks row at task named low is) ∙ sym view ∙ sym now
+writes_read : (tasks : List TaskValue) (row : List ℕ) (at : ℕ) (task : TaskValue) (writes inside : List WriteValue) →
+    names_tasks (length tasks) row ≡ true → at < length row →
+    task ≡ get_or tasks (get_or row at 0) task → inside ≡ task.writes → writes ≡ inside →
+    (nth_task tasks (get_or row at 0)).writes ≡ writes
+writes_read tasks row at task writes inside named low is view now =
+    ap (λ t. t.writes) (task_read tasks row at task named low is) ∙ sym view ∙ sym now
 
 pub returns-then-left-writes : goal.returns-then-left-writes
 returns-then-left-writes c =
@@ -18,12 +21,15 @@ returns-then-left-writes c =
     let at = c.loop-place.place-index in
     let left = c.loop-place.left in
     let writes = c.as_slice-writes.result.now in
-    let same = writes_read tasks row at c.index-tasks-place.result writes c.task.inside.writes.items c.requires c.loop-place-test.true c.index-tasks-place.is (ap (λ t. t.writes) c.task.view_is) c.as_slice-writes.ensures in
+    let same = writes_read tasks row at c.index-tasks-place.result writes c.task.inside.writes.items c.requires
+    c.loop-place-test.true c.index-tasks-place.is (ap (λ t. t.writes) c.task.view_is) c.as_slice-writes.ensures in
     let low : left < length writes = c.if-left-writes.true in
-    let within : left < length (nth_task tasks (get_or row at 0)).writes = subst (λ ws. left < length ws) (sym same) low in
+    let within : left < length (nth_task tasks (get_or row at 0)).writes =
+    subst (λ ws. left < length ws) (sym same) low in
     sym (
     c.loop-place.invariant ∙ write_here tasks row at 0 left c.loop-place-test.true within
-    ∙ ap (λ ws. slice_get ws left) same ∙ slice_get_read writes (length writes) left c.index-writes-left.result refl low c.index-writes-left.is
+    ∙ ap (λ ws. slice_get ws left) same
+    ∙ slice_get_read writes (length writes) left c.index-writes-left.result refl low c.index-writes-left.is
     )
 
 pub loop-place-preserved : goal.loop-place-preserved
@@ -33,8 +39,10 @@ loop-place-preserved c =
     let at = c.loop-place.place-index in
     let left = c.loop-place.left in
     let writes = c.as_slice-writes.result.now in
-    let same = writes_read tasks row at c.index-tasks-place.result writes c.task.inside.writes.items c.requires c.loop-place-test.true c.index-tasks-place.is (ap (λ t. t.writes) c.task.view_is) c.as_slice-writes.ensures in
+    let same = writes_read tasks row at c.index-tasks-place.result writes c.task.inside.writes.items c.requires
+    c.loop-place-test.true c.index-tasks-place.is (ap (λ t. t.writes) c.task.view_is) c.as_slice-writes.ensures in
     let past : length writes ≤ left = omega (arith, c.if-left-writes.false) in
-    let beyond : length (nth_task tasks (get_or row at 0)).writes ≤ left = subst (λ ws. length ws ≤ left) (sym same) past in
+    let beyond : length (nth_task tasks (get_or row at 0)).writes ≤ left =
+    subst (λ ws. length ws ≤ left) (sym same) past in
     c.loop-place.invariant ∙ write_later tasks row at 0 left c.loop-place-test.true beyond
     ∙ ap (λ ws. slice_get (named_writes tasks (drop (at + 1) row)) (left - length ws)) same

@@ -4,4 +4,5 @@ use Rattle.task_table.proofs.RowWrites.{named_writes}
 use Rattle.task_table.proofs.row.find_write.Given as goal
 
 abbrev pub invariant-loop-place : goal.invariant-loop-place
-invariant-loop-place l = slice_get (named_writes l.tasks l.row) l.k ≡ slice_get (named_writes l.tasks (drop l.place-index l.row)) l.left
+invariant-loop-place l = slice_get (named_writes l.tasks l.row) l.k
+    ≡ slice_get (named_writes l.tasks (drop l.place-index l.row)) l.left

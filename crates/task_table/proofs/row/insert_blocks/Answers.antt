@@ -18,11 +18,13 @@ loop-write-preserved c =
     let done = blocks_in (take at writes) in
     let block : c.write.inside.block ≡ c.write-item.result.block = ap (λ (w : WriteValue). w.block) c.write.view_is in
     let more : blocks_in (take (at + 1) writes) ≡ done ++ c.write.inside.block ∷ [] =
-    blocks_more writes at c.write-item.result c.loop-write-test.true c.write-item.is ∙ ap (λ b. done ++ b ∷ []) (sym block) in
+    blocks_more writes at c.write-item.result c.loop-write-test.true c.write-item.is
+    ∙ ap (λ b. done ++ b ∷ []) (sym block) in
     let fits : c.write.inside.block < 256 = search rules in
     record {
       set = λ test is.
-          c.insert.ensures ∙ one_added test done c.write.inside.block c.loop-write.blocks (c.loop-write.invariant.set test is)
+          c.insert.ensures ∙ one_added test done c.write.inside.block c.loop-write.blocks
+          (c.loop-write.invariant.set test is)
           ∙ ap (λ xs. blocks_where (λ b. test b || has xs b)) (sym more);
       low = ap (list_all (λ b. nat_lt b 256)) more ∙ low_more done c.write.inside.block c.loop-write.invariant.low fits;
     }

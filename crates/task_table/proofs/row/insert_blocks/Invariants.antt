@@ -8,6 +8,7 @@ use Rattle.task_table.proofs.row.insert_blocks.Given as goal
 
 abbrev pub invariant-loop-write : goal.invariant-loop-write
 invariant-loop-write l = record {
-  set : (test : ℕ → Bool) → l.initial.blocks ≡ blocks_where test → l.blocks ≡ blocks_where (λ block. test block || has (blocks_in (take l.write-index l.writes)) block);
+  set : (test : ℕ → Bool) → l.initial.blocks ≡ blocks_where test →
+      l.blocks ≡ blocks_where (λ block. test block || has (blocks_in (take l.write-index l.writes)) block);
   low : list_all (λ block. nat_lt block 256) (blocks_in (take l.write-index l.writes)) ≡ true;
 }

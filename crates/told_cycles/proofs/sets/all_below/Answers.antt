@@ -9,4 +9,5 @@ pub returns : goal.returns
 returns c =
     ap (λ n. nat_lt c.mask.result n) c.power.ensures
     ∙ ap (λ m. nat_lt m (2 ^ c.args.bound)) c.mask.ensures.value
-    ∙ below_mask c.args.set c.args.bound (ap is_set c.mask.ensures.members ∙ is_set_of_mask c.mask.result c.mask.ensures.below) c.requires
+    ∙ below_mask c.args.set c.args.bound
+    (ap is_set c.mask.ensures.members ∙ is_set_of_mask c.mask.result c.mask.ensures.below) c.requires

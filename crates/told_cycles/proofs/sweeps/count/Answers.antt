@@ -8,8 +8,14 @@ loop-block-preserved c =
     elim c.if-flags-block.branch [
       | then-flags-block w ↦
           let more = count_more c.args.flags.now c.loop-block.block true w.if-flags-block.true in
-          record { some = omega (arith, w.count-is, more, c.loop-block.invariant.some); most = omega (arith, w.count-is, c.loop-block.invariant.most) }
+          record {
+            some = omega (arith, w.count-is, more, c.loop-block.invariant.some);
+            most = omega (arith, w.count-is, c.loop-block.invariant.most);
+          }
       | else-flags-block w ↦
           let more = count_more c.args.flags.now c.loop-block.block false w.if-flags-block.false in
-          record { some = omega (arith, w.count-is, more, c.loop-block.invariant.some); most = omega (arith, w.count-is, c.loop-block.invariant.most) }
+          record {
+            some = omega (arith, w.count-is, more, c.loop-block.invariant.some);
+            most = omega (arith, w.count-is, c.loop-block.invariant.most);
+          }
     ]

@@ -7,4 +7,5 @@ use Rattle.told_cycles.proofs.work.copies_told.Goals as goal
 
 pub returns : goal.returns
 returns c =
-    c.count_copies.ensures ∙ ap (λ steps. count_by is_sweep (map actor_of_step steps)) c.as_slice.ensures ∙ ap (λ (t : TraceValue). count_by is_sweep t.steps) c.trace.view_is
+    c.count_copies.ensures ∙ ap (λ steps. count_by is_sweep (map actor_of_step steps)) c.as_slice.ensures
+    ∙ ap (λ (t : TraceValue). count_by is_sweep t.steps) c.trace.view_is

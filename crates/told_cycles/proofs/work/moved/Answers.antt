@@ -19,10 +19,13 @@ loop-place-preserved g c =
     (record {
       whole = length-set c.loop-place.next k word ∙ v.whole;
       long = v.long;
-      moved = word_more (λ (j : ℕ). limited (word_of c.args.last.now j) (word_of c.args.wanted.now j) (word_of c.args.steps.now j)) c.loop-place.next k word there v.moved c.moved_at.ensures;
+      moved = word_more (λ (j : ℕ).
+          limited (word_of c.args.last.now j) (word_of c.args.wanted.now j) (word_of c.args.steps.now j))
+          c.loop-place.next k word there v.moved c.moved_at.ensures;
     })
 
 pub returns : goal.returns
 returns g c =
     let v = c.loop-place.invariant in
-    moved_are c.args.steps.now c.args.last.now c.args.wanted.now c.loop-place.next c.requires v.long v.whole (λ k low. v.moved k (omega (arith, c.loop-place-test.false)))
+    moved_are c.args.steps.now c.args.last.now c.args.wanted.now c.loop-place.next c.requires v.long v.whole
+    (λ k low. v.moved k (omega (arith, c.loop-place-test.false)))

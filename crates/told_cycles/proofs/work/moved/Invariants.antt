@@ -8,5 +8,6 @@ abbrev pub invariant-loop-place : goal.invariant-loop-place
 invariant-loop-place g l = record {
   whole : length l.next ≡ 8;
   long : length l.last ≡ 8;
-  moved : (k : ℕ) → k < l.place → get_or l.next k (pos 0) ≡ limited (word_of l.last k) (word_of l.wanted k) (word_of l.steps k);
+  moved : (k : ℕ) → k < l.place →
+      get_or l.next k (pos 0) ≡ limited (word_of l.last k) (word_of l.wanted k) (word_of l.steps k);
 }

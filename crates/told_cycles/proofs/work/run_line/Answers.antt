@@ -9,8 +9,11 @@ pub returns-clause-value : goal.returns-clause-value
 returns-clause-value g c =
     let M = c.args.mission.now in
     let n = c.args.cycle in
-    c.run_cycle.ensures ∙ ap (λ (l : LineValue). whole (cycle_writes M n) c.args.context.now n (take M.width l.inputs)) c.line.view_is
+    c.run_cycle.ensures ∙ ap (λ (l : LineValue). whole (cycle_writes M n) c.args.context.now n (take M.width l.inputs))
+    c.line.view_is
 
 pub returns-clause-blocks : goal.returns-clause-blocks
 returns-clause-blocks g c =
-    ap length c.run_cycle.ensures ∙ apply_length (cycle_writes c.args.mission.now c.args.cycle) c.args.context.now c.args.cycle _ (length (cycle_writes c.args.mission.now c.args.cycle)) ∙ c.requires
+    ap length c.run_cycle.ensures
+    ∙ apply_length (cycle_writes c.args.mission.now c.args.cycle) c.args.context.now c.args.cycle _
+    (length (cycle_writes c.args.mission.now c.args.cycle)) ∙ c.requires

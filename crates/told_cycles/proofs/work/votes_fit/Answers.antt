@@ -7,7 +7,8 @@ use Rattle.told_cycles.proofs.work.votes_fit.Goals as goal
 pub cast-votes-requires : goal.cast-votes-requires
 cast-votes-requires c =
     let M = c.args.mission.now in
-    let long : length c.in_use.result.now ≡ length M.outputs = wanted_long M c.args.context.now c.in_use.result.now (c.in_use.ensures ∙ c.output_words.ensures) in
+    let long : length c.in_use.result.now ≡ length M.outputs =
+    wanted_long M c.args.context.now c.in_use.result.now (c.in_use.ensures ∙ c.output_words.ensures) in
     omega (arith, c.prove_sizes.ensures.few)
 
 pub returns : goal.returns

@@ -7,4 +7,5 @@ use Rattle.told_cycles.proofs.work.writes_told.Goals as goal
 
 pub returns : goal.returns
 returns c =
-    c.count_writes.ensures ∙ ap (λ steps. count_by is_task (map actor_of_step steps)) c.as_slice.ensures ∙ ap (λ (t : TraceValue). count_by is_task t.steps) c.trace.view_is
+    c.count_writes.ensures ∙ ap (λ steps. count_by is_task (map actor_of_step steps)) c.as_slice.ensures
+    ∙ ap (λ (t : TraceValue). count_by is_task t.steps) c.trace.view_is

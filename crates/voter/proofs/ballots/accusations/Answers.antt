@@ -5,4 +5,5 @@ use Rattle.voter.proofs.ballots.accusations.Goals as goal
 
 pub returns-clause-padded : goal.returns-clause-padded
 returns-clause-padded c =
-    λ cast places e. c.accused.ensures ∙ ap (accused_of c.args.active c.args.ballots.now) e ∙ accused-padded c.args.active c.args.ballots.now cast places
+    λ cast places e. c.accused.ensures ∙ ap (accused_of c.args.active c.args.ballots.now) e
+    ∙ accused-padded c.args.active c.args.ballots.now cast places

@@ -18,10 +18,12 @@ pub loop-place-preserved : goal.loop-place-preserved
 loop-place-preserved c =
     let below : c.loop-place.place < 8 = omega (arith, c.requires, c.from-place-end.ensures, c.loop-place-test.true) in
     ap (λ voted. set voted c.loop-place.place c.vote_at.result) c.loop-place.invariant
-    ∙ filled_more (at_place c.args.active c.args.ballots.now) None 8 c.loop-place.place c.vote_at.result below c.vote_at.ensures
+    ∙ filled_more (at_place c.args.active c.args.ballots.now) None 8 c.loop-place.place c.vote_at.result below
+    c.vote_at.ensures
 
 pub returns : goal.returns
 unfolding filled_to
 returns c =
-    let all : c.loop-place.place ≡ c.args.outputs = omega (arith, c.from-place-end.ensures, c.loop-place-test.false, c.loop-place.auto.place-end) in
+    let all : c.loop-place.place ≡ c.args.outputs =
+    omega (arith, c.from-place-end.ensures, c.loop-place-test.false, c.loop-place.auto.place-end) in
     c.loop-place.invariant ∙ ap (filled_to (at_place c.args.active c.args.ballots.now) None 8) all

@@ -9,4 +9,6 @@ use Rattle.voter.proofs.ballots.vote.Given as goal
 
 abbrev pub invariant-loop-place : goal.invariant-loop-place
 invariant-loop-place l =
-    l.voted ≡ filled_to (λ k. majority_of int_eq (length l.fn.active) (map (λ words. word_of words k) (cast_of l.fn.active l.ballots))) None 8 l.place
+    l.voted ≡ filled_to (λ k.
+    majority_of int_eq (length l.fn.active) (map (λ words. word_of words k) (cast_of l.fn.active l.ballots))) None 8
+    l.place

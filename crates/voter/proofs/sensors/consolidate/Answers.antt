@@ -30,7 +30,8 @@ loop-place-preserved c =
 whole : goal.returns-clause-median
 unfolding filled_to
 whole c =
-    let all : c.loop-place.place ≡ c.args.width = omega (arith, c.from-place-end.ensures, c.loop-place-test.false, c.loop-place.auto.place-end) in
+    let all : c.loop-place.place ≡ c.args.width =
+    omega (arith, c.from-place-end.ensures, c.loop-place-test.false, c.loop-place.auto.place-end) in
     c.loop-place.invariant ∙ ap (filled_to (at_place c.args.active c.args.words.now) (pos 0) 4) all
 
 pub returns-clause-median : goal.returns-clause-median
@@ -38,12 +39,15 @@ returns-clause-median c = whole c
 
 pub returns-clause-inputs : goal.returns-clause-inputs
 returns-clause-inputs c =
-    λ none. whole c ∙ ap (λ xs. xs ++ replicate (4 - c.args.width) (pos 0)) (inputs_whole c.args.active c.prove_members.ensures c.args.words.now c.args.width c.type_inv.words none)
+    λ none. whole c ∙ ap (λ xs. xs ++ replicate (4 - c.args.width) (pos 0))
+    (inputs_whole c.args.active c.prove_members.ensures c.args.words.now c.args.width c.type_inv.words none)
 
 pub returns-clause-least : goal.returns-clause-least
 returns-clause-least c =
-    λ disturbed others k h. least_bound c.args.active c.prove_members.ensures c.args.words.now disturbed c.args.width (4 - c.args.width) k c.loop-place.inputs (whole c) others h
+    λ disturbed others k h. least_bound c.args.active c.prove_members.ensures c.args.words.now disturbed c.args.width
+    (4 - c.args.width) k c.loop-place.inputs (whole c) others h
 
 pub returns-clause-greatest : goal.returns-clause-greatest
 returns-clause-greatest c =
-    λ disturbed others k h. greatest_bound c.args.active c.prove_members.ensures c.args.words.now disturbed c.args.width (4 - c.args.width) k c.loop-place.inputs (whole c) others h
+    λ disturbed others k h. greatest_bound c.args.active c.prove_members.ensures c.args.words.now disturbed c.args.width
+    (4 - c.args.width) k c.loop-place.inputs (whole c) others h

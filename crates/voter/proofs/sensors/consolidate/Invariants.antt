@@ -8,4 +8,5 @@ use Rattle.voter.proofs.sensors.consolidate.Given as goal
 
 abbrev pub invariant-loop-place : goal.invariant-loop-place
 invariant-loop-place l =
-    l.inputs ≡ filled_to (λ k. lower_median (map (λ w. word_of w.words k) (present (words_in l.fn.active l.words)))) (pos 0) 4 l.place
+    l.inputs ≡ filled_to (λ k. lower_median (map (λ w. word_of w.words k) (present (words_in l.fn.active l.words))))
+    (pos 0) 4 l.place

@@ -17,11 +17,13 @@ returns-clause-nothing_else c =
     λ M earlier current new steps slot w from to on inside carried absent.
     let carries = slot_carries w.done (cycle_at M (earlier ++ current) w.done) slot in
     nothing_else_arrives M earlier current new steps slot on w inside (length carries)
-    (subst (λ ks. AreDueCarries M (earlier ++ current) w.done steps ks new) (sym (take_all carries)) carried) refl from to absent
+    (subst (λ ks. AreDueCarries M (earlier ++ current) w.done steps ks new) (sym (take_all carries)) carried) refl from
+    to absent
 
 pub returns-clause-slot_alone : goal.returns-clause-slot_alone
 returns-clause-slot_alone c =
     λ M earlier current new steps slot w from to on inside carried.
     let carries = slot_carries w.done (cycle_at M (earlier ++ current) w.done) slot in
     alone M earlier current new steps slot on w inside (length carries)
-    (subst (λ ks. AreDueCarries M (earlier ++ current) w.done steps ks new) (sym (take_all carries)) carried) refl from to
+    (subst (λ ks. AreDueCarries M (earlier ++ current) w.done steps ks new) (sym (take_all carries)) carried) refl from
+    to

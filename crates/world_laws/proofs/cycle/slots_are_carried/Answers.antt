@@ -17,7 +17,10 @@ returns-clause-stops c =
     λ M earlier current new steps slot w on inside carried halted.
     let carries = slot_carries w.done (cycle_at M (earlier ++ current) w.done) slot in
     stops_slot M earlier current new steps slot on w inside (length carries)
-    (subst (λ ks. AreDueCarries M (earlier ++ current) w.done steps ks new) (sym (take_all carries)) carried) refl halted
+    (subst (λ ks. AreDueCarries M (earlier ++ current) w.done steps ks new) (sym (take_all carries)) carried) refl
+    halted
 
 pub returns-clause-breaks_off : goal.returns-clause-breaks_off
-returns-clause-breaks_off c = λ M earlier current new steps slot w few on inside carried. breaks_slot M earlier current new steps slot on w inside few carried
+returns-clause-breaks_off c =
+    λ M earlier current new steps slot w few on inside carried.
+    breaks_slot M earlier current new steps slot on w inside few carried

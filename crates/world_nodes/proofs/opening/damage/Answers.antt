@@ -29,4 +29,5 @@ returns c =
     c.others.ensures ∙ ap (filter (λ (e : FaultValue). not (is_for_bus e))) c.script.ensures in
     c.damage_by.ensures
     ∙ ap (λ (xs : List FaultValue). changed (after_damages xs node.channel c.args.cycle) node) here
-    ∙ ap (λ (f : RunningValue → RunningValue). changed f node) (fun_ext (λ r. without_rules M.script node.channel c.args.cycle r))
+    ∙ ap (λ (f : RunningValue → RunningValue). changed f node)
+    (fun_ext (λ r. without_rules M.script node.channel c.args.cycle r))

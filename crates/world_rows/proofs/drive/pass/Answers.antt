@@ -6,5 +6,6 @@ cycle-requires-after_bounds g c κs within = may_pass c.args.world.now _ c.requi
 
 pub returns : goal.returns
 returns g c =
-    let done = passed c.args.world.now _ c.cycle.result c.cycle.new.self _ c.requires.running c.requires.below c.cycle.ensures.passes in
+    let done = passed c.args.world.now _ c.cycle.result c.cycle.new.self _ c.requires.running c.requires.below
+    c.cycle.ensures.passes in
     record { running = done.running; one_more = done.one_more; same = done.same; halted = done.halted }

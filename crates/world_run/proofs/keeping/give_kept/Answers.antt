@@ -12,8 +12,10 @@ returns-in_err-give g c =
     let a : SinkView = g.K.Sink.seen c.args.out.now in
     let b : SinkView = g.K.Sink.seen c.give.new.out in
     let parts = flat_map (λ text. text) c.args.log.now.parts in
-    let gave = subst (λ text. HandsOver a b text (Err c.in_err-give.field-0.0)) (c.as_bytes.ensures.value ∙ c.as_str.ensures) c.in_err-give.ensures in
-    rw p.1 (gives_stop a b (c.args.head.now ++ parts) c.args.line.now p.0 (gives_stop a b c.args.head.now parts p.0 gave))
+    let gave = subst (λ text. HandsOver a b text (Err c.in_err-give.field-0.0))
+    (c.as_bytes.ensures.value ∙ c.as_str.ensures) c.in_err-give.ensures in
+    rw p.1 (gives_stop a b (c.args.head.now ++ parts) c.args.line.now p.0
+    (gives_stop a b c.args.head.now parts p.0 gave))
 
 pub returns-in_err-give_parts : goal.returns-in_err-give_parts
 returns-in_err-give_parts g c =
@@ -22,8 +24,10 @@ returns-in_err-give_parts g c =
     let b : SinkView = g.K.Sink.seen c.give.new.out in
     let d : SinkView = g.K.Sink.seen c.give_parts.new.out in
     let parts = flat_map (λ text. text) c.args.log.now.parts in
-    let first = subst (λ text. HandsOver a b text (Ok tt)) (c.as_bytes.ensures.value ∙ c.as_str.ensures) c.in_ok-give.ensures in
-    rw p.1 (gives_stop a d (c.args.head.now ++ parts) c.args.line.now p.0 (gives_then a b d c.args.head.now parts (Err p.0) first c.in_err-give_parts.ensures))
+    let first = subst (λ text. HandsOver a b text (Ok tt)) (c.as_bytes.ensures.value ∙ c.as_str.ensures)
+    c.in_ok-give.ensures in
+    rw p.1 (gives_stop a d (c.args.head.now ++ parts) c.args.line.now p.0
+    (gives_then a b d c.args.head.now parts (Err p.0) first c.in_err-give_parts.ensures))
 
 pub returns : goal.returns
 returns g c =
@@ -32,6 +36,9 @@ returns g c =
     let d : SinkView = g.K.Sink.seen c.give_parts.new.out in
     let e : SinkView = g.K.Sink.seen c.give-2.new.out in
     let parts = flat_map (λ text. text) c.args.log.now.parts in
-    let first = subst (λ text. HandsOver a b text (Ok tt)) (c.as_bytes.ensures.value ∙ c.as_str.ensures) c.in_ok-give.ensures in
-    let third = subst (λ text. HandsOver d e text c.give-2.result) (c.as_bytes-2.ensures.value ∙ c.as_str-2.ensures) c.give-2.ensures in
-    gives_then a d e (c.args.head.now ++ parts) c.args.line.now c.give-2.result (gives_then a b d c.args.head.now parts (Ok tt) first c.in_ok-give_parts.ensures) third
+    let first = subst (λ text. HandsOver a b text (Ok tt)) (c.as_bytes.ensures.value ∙ c.as_str.ensures)
+    c.in_ok-give.ensures in
+    let third = subst (λ text. HandsOver d e text c.give-2.result) (c.as_bytes-2.ensures.value ∙ c.as_str-2.ensures)
+    c.give-2.ensures in
+    gives_then a d e (c.args.head.now ++ parts) c.args.line.now c.give-2.result
+    (gives_then a b d c.args.head.now parts (Ok tt) first c.in_ok-give_parts.ensures) third

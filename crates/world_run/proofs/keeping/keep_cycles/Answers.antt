@@ -14,11 +14,13 @@ loop-cycle-init g c =
     let M = w.mission in
     let log = c.args.log.now in
     let bus = g.B.Bus.seen c.args.bus.now in
-    let first = subst (λ x. IsDriven M.actuator g.B.Bus.may M bus (first_world M) bus x [] []) (sym c.requires.gate) (mission_begins g.B.Bus.may M bus c.requires.mission c.requires.loaded) in
+    let first = subst (λ x. IsDriven M.actuator g.B.Bus.may M bus (first_world M) bus x [] []) (sym c.requires.gate)
+    (mission_begins g.B.Bus.may M bus c.requires.mission c.requires.loaded) in
     record {
       done = ap (λ (w : WorldValue). w.done) c.requires.world;
       kept = refl;
-      at = first_kept g.B.Bus.may log.room c.args.trace M M.actuator bus w c.args.actuator.now log c.requires.world first (ap (λ (ps : List (List ℕ)). kept ps log.room) c.requires.empty);
+      at = first_kept g.B.Bus.may log.room c.args.trace M M.actuator bus w c.args.actuator.now log c.requires.world
+          first (ap (λ (ps : List (List ℕ)). kept ps log.room) c.requires.empty);
     }
 
 pub keep_cycle-requires-clause-below : goal.keep_cycle-requires-clause-below
@@ -58,5 +60,14 @@ returns g c =
     let M = c.args.world.now.mission in
     let inv = c.loop-cycle.invariant in
     let kept = ap (λ (m : MissionValue). m.cycles) inv.kept in
-    let end = c.cycles-cycle-end.ensures ∙ ap (λ (m : MissionValue). m.cycles) c.mission.ensures in
-    (inv.at, omega (arith, kept, end, c.loop-cycle-test.false, inv.done, kept_cycles _ _ _ _ M.actuator _ _ _ _ _ inv.at))
+    let end = c.cycles-cycle-end.ensures ∙ ap (λ (m : MissionValue). m.cycles) c.mission.ensures in (
+      inv.at,
+      omega (
+        arith,
+        kept,
+        end,
+        c.loop-cycle-test.false,
+        inv.done,
+        kept_cycles _ _ _ _ M.actuator _ _ _ _ _ inv.at,
+      ),
+    )

@@ -7,5 +7,6 @@ abbrev pub invariant-loop-cycle : goal.invariant-loop-cycle
 invariant-loop-cycle g l = record {
   done : l.world.done ≡ l.cycle;
   kept : l.world.mission ≡ l.fn.world.mission;
-  at : IsKept g.B.Bus.may l.fn.log.room l.trace l.fn.world.mission l.fn.world.mission.actuator (g.B.Bus.seen l.fn.bus) l.world (g.B.Bus.seen l.bus) l.actuator l.log;
+  at : IsKept g.B.Bus.may l.fn.log.room l.trace l.fn.world.mission l.fn.world.mission.actuator (g.B.Bus.seen l.fn.bus)
+      l.world (g.B.Bus.seen l.bus) l.actuator l.log;
 }

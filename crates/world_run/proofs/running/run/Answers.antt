@@ -18,11 +18,15 @@ returns-in_err-run_result g c =
     let bus = g.B.Bus.seen c.args.bus.now in
     let out = g.K.Sink.seen c.args.out.now in
     let out' = g.K.Sink.seen c.put_head.new.out in
-    let wrote : Puts out out' (head M) c.put_head.result = subst (λ m. Puts out out' (head m) c.put_head.result) c.mission-2.ensures c.put_head.ensures in
+    let wrote : Puts out out' (head M) c.put_head.result =
+    subst (λ m. Puts out out' (head m) c.put_head.result) c.mission-2.ensures c.put_head.ensures in
     let o = M.actuator in
     let first = mission_begins g.B.Bus.may M bus c.requires.mission c.requires.loaded in
-    let done = head_done g.B.Bus.may c.args.trace M o bus out out' (option_map first_gate o) first c.put_head.result wrote in
-    rw (p.1, p.2) (subst (λ r. GoesTo g.B.Bus.may c.args.trace M o bus out 0 (first_world M) bus (option_map first_gate o) out' r) (sym c.in_err-run_result.ensures) done)
+    let done = head_done g.B.Bus.may c.args.trace M o bus out out' (option_map first_gate o) first c.put_head.result
+    wrote in
+    rw (p.1, p.2) (subst (λ r.
+    GoesTo g.B.Bus.may c.args.trace M o bus out 0 (first_world M) bus (option_map first_gate o) out' r)
+    (sym c.in_err-run_result.ensures) done)
 
 pub run_cycles-requires-clause-at : goal.run_cycles-requires-clause-at
 run_cycles-requires-clause-at g c κs within =
@@ -30,17 +34,23 @@ run_cycles-requires-clause-at g c κs within =
     let bus = g.B.Bus.seen c.args.bus.now in
     let out = g.K.Sink.seen c.args.out.now in
     let out' = g.K.Sink.seen c.put_head.new.out in
-    let wrote : Puts out out' (head M) c.put_head.result = subst (λ m. Puts out out' (head m) c.put_head.result) c.mission-2.ensures c.put_head.ensures in
+    let wrote : Puts out out' (head M) c.put_head.result =
+    subst (λ m. Puts out out' (head m) c.put_head.result) c.mission-2.ensures c.put_head.ensures in
     let o = M.actuator in
     let first = mission_begins g.B.Bus.may M bus c.requires.mission c.requires.loaded in
-    let done = head_done g.B.Bus.may c.args.trace M o bus out out' (option_map first_gate o) first c.put_head.result wrote in
-    let begun = subst (λ r. GoesTo g.B.Bus.may c.args.trace M o bus out 0 (first_world M) bus (option_map first_gate o) out' r) (sym c.in_ok-run_result.ensures) done in (
+    let done = head_done g.B.Bus.may c.args.trace M o bus out out' (option_map first_gate o) first c.put_head.result
+    wrote in
+    let begun = subst (λ r. GoesTo g.B.Bus.may c.args.trace M o bus out 0 (first_world M) bus (option_map first_gate o)
+    out' r) (sym c.in_ok-run_result.ensures) done in (
       o,
       M,
       bus,
       out,
-      subst (λ x. IsAt g.B.Bus.may c.args.trace M o bus out c.args.world.now bus x out') (sym (c.first_gate-actuator.ensures ∙ ap (λ (m : MissionValue). option_map first_gate m.actuator) c.mission.ensures))
-          (subst (λ (w : WorldValue). IsAt g.B.Bus.may c.args.trace M o bus out w bus (option_map first_gate o) out') (sym c.requires.fresh) begun.0),
+      subst (λ x. IsAt g.B.Bus.may c.args.trace M o bus out c.args.world.now bus x out')
+          (sym (c.first_gate-actuator.ensures
+          ∙ ap (λ (m : MissionValue). option_map first_gate m.actuator) c.mission.ensures))
+          (subst (λ (w : WorldValue). IsAt g.B.Bus.may c.args.trace M o bus out w bus (option_map first_gate o) out')
+          (sym c.requires.fresh) begun.0),
     )
 
 pub returns-in_err-run_cycles : goal.returns-in_err-run_cycles
@@ -50,13 +60,19 @@ returns-in_err-run_cycles g c =
     let bus = g.B.Bus.seen c.args.bus.now in
     let out = g.K.Sink.seen c.args.out.now in
     let out' = g.K.Sink.seen c.put_head.new.out in
-    let wrote : Puts out out' (head M) c.put_head.result = subst (λ m. Puts out out' (head m) c.put_head.result) c.mission-2.ensures c.put_head.ensures in
+    let wrote : Puts out out' (head M) c.put_head.result =
+    subst (λ m. Puts out out' (head m) c.put_head.result) c.mission-2.ensures c.put_head.ensures in
     let o = M.actuator in
     let first = mission_begins g.B.Bus.may M bus c.requires.mission c.requires.loaded in
-    let done = head_done g.B.Bus.may c.args.trace M o bus out out' (option_map first_gate o) first c.put_head.result wrote in
-    let begun = subst (λ r. GoesTo g.B.Bus.may c.args.trace M o bus out 0 (first_world M) bus (option_map first_gate o) out' r) (sym c.in_ok-run_result.ensures) done in
-    let at = subst (λ x. IsAt g.B.Bus.may c.args.trace M o bus out c.args.world.now bus x out') (sym (c.first_gate-actuator.ensures ∙ ap (λ (m : MissionValue). option_map first_gate m.actuator) c.mission.ensures))
-    (subst (λ (w : WorldValue). IsAt g.B.Bus.may c.args.trace M o bus out w bus (option_map first_gate o) out') (sym c.requires.fresh) begun.0) in
+    let done = head_done g.B.Bus.may c.args.trace M o bus out out' (option_map first_gate o) first c.put_head.result
+    wrote in
+    let begun = subst (λ r. GoesTo g.B.Bus.may c.args.trace M o bus out 0 (first_world M) bus (option_map first_gate o)
+    out' r) (sym c.in_ok-run_result.ensures) done in
+    let at = subst (λ x. IsAt g.B.Bus.may c.args.trace M o bus out c.args.world.now bus x out')
+    (sym (c.first_gate-actuator.ensures
+    ∙ ap (λ (m : MissionValue). option_map first_gate m.actuator) c.mission.ensures))
+    (subst (λ (w : WorldValue). IsAt g.B.Bus.may c.args.trace M o bus out w bus (option_map first_gate o) out')
+    (sym c.requires.fresh) begun.0) in
     rw (p.1, p.2) (c.in_err-run_cycles.ensures o M bus out at)
 
 pub returns : goal.returns
@@ -65,19 +81,27 @@ returns g c =
     let bus = g.B.Bus.seen c.args.bus.now in
     let out = g.K.Sink.seen c.args.out.now in
     let out' = g.K.Sink.seen c.put_head.new.out in
-    let wrote : Puts out out' (head M) c.put_head.result = subst (λ m. Puts out out' (head m) c.put_head.result) c.mission-2.ensures c.put_head.ensures in
+    let wrote : Puts out out' (head M) c.put_head.result =
+    subst (λ m. Puts out out' (head m) c.put_head.result) c.mission-2.ensures c.put_head.ensures in
     let o = M.actuator in
     let first = mission_begins g.B.Bus.may M bus c.requires.mission c.requires.loaded in
-    let done = head_done g.B.Bus.may c.args.trace M o bus out out' (option_map first_gate o) first c.put_head.result wrote in
-    let begun = subst (λ r. GoesTo g.B.Bus.may c.args.trace M o bus out 0 (first_world M) bus (option_map first_gate o) out' r) (sym c.in_ok-run_result.ensures) done in
-    let at = subst (λ x. IsAt g.B.Bus.may c.args.trace M o bus out c.args.world.now bus x out') (sym (c.first_gate-actuator.ensures ∙ ap (λ (m : MissionValue). option_map first_gate m.actuator) c.mission.ensures))
-    (subst (λ (w : WorldValue). IsAt g.B.Bus.may c.args.trace M o bus out w bus (option_map first_gate o) out') (sym c.requires.fresh) begun.0) in
+    let done = head_done g.B.Bus.may c.args.trace M o bus out out' (option_map first_gate o) first c.put_head.result
+    wrote in
+    let begun = subst (λ r. GoesTo g.B.Bus.may c.args.trace M o bus out 0 (first_world M) bus (option_map first_gate o)
+    out' r) (sym c.in_ok-run_result.ensures) done in
+    let at = subst (λ x. IsAt g.B.Bus.may c.args.trace M o bus out c.args.world.now bus x out')
+    (sym (c.first_gate-actuator.ensures
+    ∙ ap (λ (m : MissionValue). option_map first_gate m.actuator) c.mission.ensures))
+    (subst (λ (w : WorldValue). IsAt g.B.Bus.may c.args.trace M o bus out w bus (option_map first_gate o) out')
+    (sym c.requires.fresh) begun.0) in
     let (ran, all) = c.in_ok-run_cycles.ensures o M bus out at in
     let w = c.run_cycles.new.world in
     let after = g.B.Bus.seen c.run_cycles.new.bus in
     let before = g.K.Sink.seen c.run_cycles.new.out in
     let last_out = g.K.Sink.seen c.put_end.new.out in
     let mission = at_mission g.B.Bus.may c.args.trace M o bus out w after c.run_cycles.new.actuator before ran in
-    let told : Puts before last_out (last M) c.put_end.result = subst (λ m. Puts before last_out (last m) c.put_end.result) (c.mission-3.ensures ∙ mission) c.put_end.ensures in
+    let told : Puts before last_out (last M) c.put_end.result =
+    subst (λ m. Puts before last_out (last m) c.put_end.result) (c.mission-3.ensures ∙ mission) c.put_end.ensures in
     subst (λ r. Runs g.B.Bus.may c.args.trace M o bus after out last_out r) (sym c.run_result-2.ensures)
-    (end_done g.B.Bus.may c.args.trace M o bus out w after c.run_cycles.new.actuator before last_out ran all c.put_end.result told)
+    (end_done g.B.Bus.may c.args.trace M o bus out w after c.run_cycles.new.actuator before last_out ran all
+    c.put_end.result told)

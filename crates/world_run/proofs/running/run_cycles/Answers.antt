@@ -14,7 +14,8 @@ run_cycle-requires-clause-below g c =
 pub returns-in_err-run_cycle : goal.returns-in_err-run_cycle
 returns-in_err-run_cycle g c =
     let p = err_from_is_err_and c.from_residual.result c.from_residual.ensures.1 in
-    rw (p.1, p.2) (λ o M start begun at. c.in_err-run_cycle.ensures o M start begun (c.loop-cycle.invariant.each o M start begun at))
+    rw (p.1, p.2) (λ o M start begun at.
+    c.in_err-run_cycle.ensures o M start begun (c.loop-cycle.invariant.each o M start begun at))
 
 pub loop-cycle-preserved : goal.loop-cycle-preserved
 loop-cycle-preserved g c =

@@ -17,6 +17,8 @@ invariant-loop-cycle g l =
     record {
       done : l.world.done ≡ l.cycle;
       kept : l.world.mission ≡ l.fn.world.mission;
-      some : (o : Option ActuatorValue) × (M : MissionValue) × (start : BusValue) × (begun : SinkView) × at o M start begun;
-      each : (o : Option ActuatorValue) (M : MissionValue) (start : BusValue) (begun : SinkView) → before o M start begun → at o M start begun;
+      some : (o : Option ActuatorValue) × (M : MissionValue) × (start : BusValue) × (begun : SinkView)
+          × at o M start begun;
+      each : (o : Option ActuatorValue) (M : MissionValue) (start : BusValue) (begun : SinkView) →
+          before o M start begun → at o M start begun;
     }

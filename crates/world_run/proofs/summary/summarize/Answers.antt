@@ -14,7 +14,8 @@ returns-in_err-tally_cycles g c =
 
 pub overflow_cast-outputs : goal.overflow_cast-outputs
 overflow_cast-outputs g c =
-    let few : length c.outputs.result.now ≤ 8 = subst (λ outputs. length outputs ≤ 8) (sym c.outputs.ensures) c.prove_sizes.ensures.few in
+    let few : length c.outputs.result.now ≤ 8 =
+    subst (λ outputs. length outputs ≤ 8) (sym c.outputs.ensures) c.prove_sizes.ensures.few in
     grind (arith, few)
 
 pub put_summary-requires : goal.put_summary-requires
@@ -31,9 +32,15 @@ returns g c =
     let out = g.K.Sink.seen c.tally_cycles.new.out in
     let out' = g.K.Sink.seen c.put_summary.new.out in
     let outputs = c.outputs.ensures ∙ ap (λ (m : MissionValue). m.outputs) (c.mission-mission.ensures ∙ at.2.mission) in
-    let wrote : Puts out out' (summary_of c.args.number (length M.outputs) w.carried c.tally_cycles.new.tally) c.put_summary.result =
-    subst (λ n. Puts out out' (summary_of c.args.number n w.carried c.tally_cycles.new.tally) c.put_summary.result) (ap length outputs)
-    (subst (λ n. Puts out out' (summary_of c.args.number (length c.outputs.result.now) n c.tally_cycles.new.tally) c.put_summary.result) c.carried-frames.ensures c.put_summary.ensures) in
-    let begun_wrote = subst (λ (o : SinkView). Puts o out' (summary_of c.args.number (length M.outputs) w.carried c.tally_cycles.new.tally) c.put_summary.result) unwritten wrote in
+    let wrote : Puts out out' (summary_of c.args.number (length M.outputs) w.carried c.tally_cycles.new.tally)
+    c.put_summary.result =
+    subst (λ n. Puts out out' (summary_of c.args.number n w.carried c.tally_cycles.new.tally) c.put_summary.result)
+    (ap length outputs)
+    (subst (λ n. Puts out out' (summary_of c.args.number (length c.outputs.result.now) n c.tally_cycles.new.tally)
+    c.put_summary.result) c.carried-frames.ensures c.put_summary.ensures) in
+    let begun_wrote = subst (λ (o : SinkView).
+    Puts o out' (summary_of c.args.number (length M.outputs) w.carried c.tally_cycles.new.tally)
+    c.put_summary.result) unwritten wrote in
     subst (λ r. Summarizes g.B.Bus.may c.args.number M start after begun out' r) (sym c.run_result.ensures)
-    (summary_done g.B.Bus.may M start c.args.number w after begun out' c.tally_cycles.new.tally at all c.put_summary.result begun_wrote)
+    (summary_done g.B.Bus.may M start c.args.number w after begun out' c.tally_cycles.new.tally at all
+    c.put_summary.result begun_wrote)

@@ -16,7 +16,8 @@ loop-cycle-init g c =
       kept = refl;
       joins = omega (arith, c.requires.joins);
       removals = omega (arith, c.requires.removals);
-      at = first_tallied g.B.Bus.may c.args.world.now.mission bus c.args.world.now c.args.tally.now c.requires.world c.requires.mission c.requires.loaded c.requires.joins c.requires.removals c.requires.last;
+      at = first_tallied g.B.Bus.may c.args.world.now.mission bus c.args.world.now c.args.tally.now c.requires.world
+          c.requires.mission c.requires.loaded c.requires.joins c.requires.removals c.requires.last;
       unwritten = refl;
     }
 
@@ -29,7 +30,9 @@ returns-in_err-tally_cycle g c =
     let after = g.B.Bus.seen c.tally_cycle.new.bus in
     let out' = g.K.Sink.seen c.tally_cycle.new.out in
     rw (p.1, p.2)
-    (λ number. subst (λ (o : SinkView). TalliesTo g.B.Bus.may number M start o M.cycles c.tally_cycle.new.world after out' c.tally_cycle.new.tally (Err c.in_err-tally_cycle.field-0.0)) inv.unwritten
+    (λ number. subst (λ (o : SinkView).
+    TalliesTo g.B.Bus.may number M start o M.cycles c.tally_cycle.new.world after out' c.tally_cycle.new.tally
+    (Err c.in_err-tally_cycle.field-0.0)) inv.unwritten
     (c.in_err-tally_cycle.ensures.goes_on number M start inv.at))
 
 pub loop-cycle-preserved : goal.loop-cycle-preserved

@@ -10,9 +10,12 @@ pub returns-in-Some : goal.returns-in-Some
 returns-in-Some c =
     let gate = c.in-Some.gate in
     let count : length gate.words ≡ c.args.outputs = c.requires.fits gate c.in-Some.is in
-    let these : take c.args.outputs (padded 8 gate.words) ≡ gate.words = ap (λ n. take n (padded 8 gate.words)) (sym count) ∙ take-append_seam gate.words (replicate (8 - length gate.words) (pos 0)) in
+    let these : take c.args.outputs (padded 8 gate.words) ≡ gate.words =
+    ap (λ n. take n (padded 8 gate.words)) (sym count)
+    ∙ take-append_seam gate.words (replicate (8 - length gate.words) (pos 0)) in
     subst (λ o. OnOk c.write_out.result (c.write_out.new.text ≡ c.args.text.now ++ words_line o)) (sym c.in-Some.is)
-    (subst (λ words. OnOk c.write_out.result (c.write_out.new.text ≡ c.args.text.now ++ out_line words)) (ap (take c.args.outputs) c.words.ensures ∙ these) c.write_out.ensures.written)
+    (subst (λ words. OnOk c.write_out.result (c.write_out.new.text ≡ c.args.text.now ++ out_line words))
+    (ap (take c.args.outputs) c.words.ensures ∙ these) c.write_out.ensures.written)
 
 pub returns-in-None : goal.returns-in-None
 returns-in-None c = sym (append-nil c.args.text.now) ∙ ap (λ o. c.args.text.now ++ words_line o) (sym c.in-None.is)

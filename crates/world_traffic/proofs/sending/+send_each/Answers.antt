@@ -14,9 +14,12 @@ send_node-requires g t c =
     let node = c.in-Some.node.now in
     let rest = c.in-Some.rest.now in (
       held.0,
-      (all_parts (StandsForReceived held.0) node rest (subst (λ (nodes : List NodeValue). All (StandsForReceived held.0) nodes) c.in-Some.ensures.cases.0 held.1)).0,
+      (all_parts (StandsForReceived held.0) node rest
+          (subst (λ (nodes : List NodeValue). All (StandsForReceived held.0) nodes) c.in-Some.ensures.cases.0
+          held.1)).0,
       (all_parts (MaySend c.args.mission.now before.cycle before.slot held.0) node rest
-          (subst (λ (nodes : List NodeValue). All (MaySend c.args.mission.now before.cycle before.slot held.0) nodes) c.in-Some.ensures.cases.0 held.2)).0,
+          (subst (λ (nodes : List NodeValue). All (MaySend c.args.mission.now before.cycle before.slot held.0) nodes)
+          c.in-Some.ensures.cases.0 held.2)).0,
     )
 
 pub send_each-requires : goal.send_each-requires
@@ -26,15 +29,21 @@ send_each-requires g t c κs within =
     let between = c.send_node.new.traffic in
     let node = c.in-Some.node.now in
     let rest = c.in-Some.rest.now in
-    let stands = all_parts (StandsForReceived held.0) node rest (subst (λ (nodes : List NodeValue). All (StandsForReceived held.0) nodes) c.in-Some.ensures.cases.0 held.1) in
+    let stands = all_parts (StandsForReceived held.0) node rest
+    (subst (λ (nodes : List NodeValue). All (StandsForReceived held.0) nodes) c.in-Some.ensures.cases.0 held.1) in
     let may = all_parts (MaySend c.args.mission.now before.cycle before.slot held.0) node rest
-    (subst (λ (nodes : List NodeValue). All (MaySend c.args.mission.now before.cycle before.slot held.0) nodes) c.in-Some.ensures.cases.0 held.2) in
-    let later : (received : AllReceived) × All (StandsForReceived received) rest × All (MaySend c.args.mission.now between.cycle between.slot received) rest = (
+    (subst (λ (nodes : List NodeValue). All (MaySend c.args.mission.now before.cycle before.slot held.0) nodes)
+    c.in-Some.ensures.cases.0 held.2) in
+    let later : (received : AllReceived) × All (StandsForReceived received) rest
+    × All (MaySend c.args.mission.now between.cycle between.slot received) rest = (
       held.0,
       stands.1,
-      on_same g.B.Bus.may (g.B.Bus.seen c.args.bus.now).script (g.B.Bus.seen c.args.bus.now).log (g.B.Bus.seen c.send_node.new.bus).log
-          (sends_of c.args.mission.now before.cycle before.slot (receiver_numbers c.args.to.now) (held.0 node.channel) node) before between
-          (λ cycle slot. All (MaySend c.args.mission.now cycle slot held.0) rest) (c.in-Ok.ensures.sent held.0 stands.0) may.1,
+      on_same g.B.Bus.may (g.B.Bus.seen c.args.bus.now).script (g.B.Bus.seen c.args.bus.now).log
+          (g.B.Bus.seen c.send_node.new.bus).log
+          (sends_of c.args.mission.now before.cycle before.slot (receiver_numbers c.args.to.now) (held.0 node.channel)
+          node) before between
+          (λ cycle slot. All (MaySend c.args.mission.now cycle slot held.0) rest) (c.in-Ok.ensures.sent held.0 stands.0)
+          may.1,
     ) in
     search (rules, later)
 
@@ -47,11 +56,16 @@ returns-in-Ok-send_each-clause-sent g t c = λ received all.
     let to = receiver_numbers c.args.to.now in
     let script = (g.B.Bus.seen c.args.bus.now).script in
     let log = (g.B.Bus.seen c.args.bus.now).log in
-    let stands = all_parts (StandsForReceived received) node rest (subst (λ (nodes : List NodeValue). All (StandsForReceived received) nodes) c.in-Some.ensures.cases.0 all) in
-    subst (λ (nodes : List NodeValue). SendsSlot g.B.Bus.may script log (g.B.Bus.seen c.send_each.new.bus).log (all_sends M before.cycle before.slot to received nodes) before c.send_each.new.traffic)
+    let stands = all_parts (StandsForReceived received) node rest
+    (subst (λ (nodes : List NodeValue). All (StandsForReceived received) nodes) c.in-Some.ensures.cases.0 all) in
+    subst (λ (nodes : List NodeValue).
+    SendsSlot g.B.Bus.may script log (g.B.Bus.seen c.send_each.new.bus).log
+    (all_sends M before.cycle before.slot to received nodes) before c.send_each.new.traffic)
     (sym c.in-Some.ensures.cases.0)
-    (sent_on g.B.Bus.may script (g.B.Bus.seen c.send_node.new.bus).script log (g.B.Bus.seen c.send_node.new.bus).log (g.B.Bus.seen c.send_each.new.bus).log
-    (sends_of M before.cycle before.slot to (received node.channel) node) (λ cycle slot. all_sends M cycle slot to received rest)
+    (sent_on g.B.Bus.may script (g.B.Bus.seen c.send_node.new.bus).script log (g.B.Bus.seen c.send_node.new.bus).log
+    (g.B.Bus.seen c.send_each.new.bus).log
+    (sends_of M before.cycle before.slot to (received node.channel) node)
+    (λ cycle slot. all_sends M cycle slot to received rest)
     before c.send_node.new.traffic c.send_each.new.traffic c.send_node.ensures.script
     (c.in-Ok.ensures.sent received stands.0) (c.in-Ok-send_each.ensures.sent received stands.1))
 
@@ -64,11 +78,16 @@ returns-in-Err-send_each-clause-some g t c = λ received all.
     let to = receiver_numbers c.args.to.now in
     let script = (g.B.Bus.seen c.args.bus.now).script in
     let log = (g.B.Bus.seen c.args.bus.now).log in
-    let stands = all_parts (StandsForReceived received) node rest (subst (λ (nodes : List NodeValue). All (StandsForReceived received) nodes) c.in-Some.ensures.cases.0 all) in
-    subst (λ (nodes : List NodeValue). SendsFirstOfSlot g.B.Bus.may script log (g.B.Bus.seen c.send_each.new.bus).log (all_sends M before.cycle before.slot to received nodes) before c.send_each.new.traffic)
+    let stands = all_parts (StandsForReceived received) node rest
+    (subst (λ (nodes : List NodeValue). All (StandsForReceived received) nodes) c.in-Some.ensures.cases.0 all) in
+    subst (λ (nodes : List NodeValue).
+    SendsFirstOfSlot g.B.Bus.may script log (g.B.Bus.seen c.send_each.new.bus).log
+    (all_sends M before.cycle before.slot to received nodes) before c.send_each.new.traffic)
     (sym c.in-Some.ensures.cases.0)
-    (some_on g.B.Bus.may script (g.B.Bus.seen c.send_node.new.bus).script log (g.B.Bus.seen c.send_node.new.bus).log (g.B.Bus.seen c.send_each.new.bus).log
-    (sends_of M before.cycle before.slot to (received node.channel) node) (λ cycle slot. all_sends M cycle slot to received rest)
+    (some_on g.B.Bus.may script (g.B.Bus.seen c.send_node.new.bus).script log (g.B.Bus.seen c.send_node.new.bus).log
+    (g.B.Bus.seen c.send_each.new.bus).log
+    (sends_of M before.cycle before.slot to (received node.channel) node)
+    (λ cycle slot. all_sends M cycle slot to received rest)
     before c.send_node.new.traffic c.send_each.new.traffic c.send_node.ensures.script
     (c.in-Ok.ensures.sent received stands.0) (c.in-Err-send_each.ensures.some received stands.1))
 
@@ -81,9 +100,13 @@ returns-in-Err-clause-some g t c = λ received all.
     let to = receiver_numbers c.args.to.now in
     let script = (g.B.Bus.seen c.args.bus.now).script in
     let log = (g.B.Bus.seen c.args.bus.now).log in
-    let stands = all_parts (StandsForReceived received) node rest (subst (λ (nodes : List NodeValue). All (StandsForReceived received) nodes) c.in-Some.ensures.cases.0 all) in
-    subst (λ (nodes : List NodeValue). SendsFirstOfSlot g.B.Bus.may script log (g.B.Bus.seen c.send_node.new.bus).log (all_sends M before.cycle before.slot to received nodes) before c.send_node.new.traffic)
+    let stands = all_parts (StandsForReceived received) node rest
+    (subst (λ (nodes : List NodeValue). All (StandsForReceived received) nodes) c.in-Some.ensures.cases.0 all) in
+    subst (λ (nodes : List NodeValue).
+    SendsFirstOfSlot g.B.Bus.may script log (g.B.Bus.seen c.send_node.new.bus).log
+    (all_sends M before.cycle before.slot to received nodes) before c.send_node.new.traffic)
     (sym c.in-Some.ensures.cases.0)
     (some_first g.B.Bus.may script log (g.B.Bus.seen c.send_node.new.bus).log
-    (sends_of M before.cycle before.slot to (received node.channel) node) (all_sends M before.cycle before.slot to received rest)
+    (sends_of M before.cycle before.slot to (received node.channel) node)
+    (all_sends M before.cycle before.slot to received rest)
     before c.send_node.new.traffic (c.in-Err.ensures.some received stands.0))

@@ -9,8 +9,11 @@ pub returns-in-Ok-send_owed-clause-sent : goal.returns-in-Ok-send_owed-clause-se
 returns-in-Ok-send_owed-clause-sent g c = λ received stands.
     let node = c.args.node.now in
     let before = c.args.traffic.now in
-    subst (λ (l : List SendValue). SendsSlot g.B.Bus.may (g.B.Bus.seen c.args.bus.now).script (g.B.Bus.seen c.args.bus.now).log (g.B.Bus.seen c.send_owed.new.bus).log l before c.send_owed.new.traffic)
-    (sends_alike c.args.mission.now before.cycle before.slot (received node.channel) node (receiver_numbers c.args.to) c.channel.result
+    subst (λ (l : List SendValue).
+    SendsSlot g.B.Bus.may (g.B.Bus.seen c.args.bus.now).script (g.B.Bus.seen c.args.bus.now).log
+    (g.B.Bus.seen c.send_owed.new.bus).log l before c.send_owed.new.traffic)
+    (sends_alike c.args.mission.now before.cycle before.slot (received node.channel) node (receiver_numbers c.args.to)
+    c.channel.result
     (ap has_targets (sym c.slot.ensures) ∙ sym c.has_targets.ensures ∙ c.if-has_targets.false))
     (c.in-Ok-send_owed.ensures.sent received stands)
 
@@ -18,8 +21,11 @@ pub returns-in-Err-send_owed-clause-some : goal.returns-in-Err-send_owed-clause-
 returns-in-Err-send_owed-clause-some g c = λ received stands.
     let node = c.args.node.now in
     let before = c.args.traffic.now in
-    subst (λ (l : List SendValue). SendsFirstOfSlot g.B.Bus.may (g.B.Bus.seen c.args.bus.now).script (g.B.Bus.seen c.args.bus.now).log (g.B.Bus.seen c.send_owed.new.bus).log l before c.send_owed.new.traffic)
-    (sends_alike c.args.mission.now before.cycle before.slot (received node.channel) node (receiver_numbers c.args.to) c.channel.result
+    subst (λ (l : List SendValue).
+    SendsFirstOfSlot g.B.Bus.may (g.B.Bus.seen c.args.bus.now).script (g.B.Bus.seen c.args.bus.now).log
+    (g.B.Bus.seen c.send_owed.new.bus).log l before c.send_owed.new.traffic)
+    (sends_alike c.args.mission.now before.cycle before.slot (received node.channel) node (receiver_numbers c.args.to)
+    c.channel.result
     (ap has_targets (sym c.slot.ensures) ∙ sym c.has_targets.ensures ∙ c.if-has_targets.false))
     (c.in-Err-send_owed.ensures.some received stands)
 
@@ -27,16 +33,22 @@ pub returns-in-Ok-clause-sent : goal.returns-in-Ok-clause-sent
 returns-in-Ok-clause-sent g c = λ received stands.
     let node = c.args.node.now in
     let before = c.args.traffic.now in
-    rw (c.in-Channels.is) (subst (λ (l : List SendValue). SendsSlot g.B.Bus.may (g.B.Bus.seen c.args.bus.now).script (g.B.Bus.seen c.args.bus.now).log (g.B.Bus.seen c.send_targets.new.bus).log l before c.send_targets.new.traffic)
-    (all_targets c.args.mission.now before.cycle before.slot (received node.channel) node c.in-Channels.targets c.every_channel.result c.flags.ensures.members c.every_channel.ensures)
+    rw (c.in-Channels.is) (subst
+    (λ (l : List SendValue). SendsSlot g.B.Bus.may (g.B.Bus.seen c.args.bus.now).script
+    (g.B.Bus.seen c.args.bus.now).log (g.B.Bus.seen c.send_targets.new.bus).log l before c.send_targets.new.traffic)
+    (all_targets c.args.mission.now before.cycle before.slot (received node.channel) node c.in-Channels.targets
+    c.every_channel.result c.flags.ensures.members c.every_channel.ensures)
     (c.in-Ok.ensures.sent received stands))
 
 pub returns-in-Err-clause-some : goal.returns-in-Err-clause-some
 returns-in-Err-clause-some g c = λ received stands.
     let node = c.args.node.now in
     let before = c.args.traffic.now in
-    rw (c.in-Channels.is) (subst (λ (l : List SendValue). SendsFirstOfSlot g.B.Bus.may (g.B.Bus.seen c.args.bus.now).script (g.B.Bus.seen c.args.bus.now).log (g.B.Bus.seen c.send_targets.new.bus).log l before c.send_targets.new.traffic)
-    (all_targets c.args.mission.now before.cycle before.slot (received node.channel) node c.in-Channels.targets c.every_channel.result c.flags.ensures.members c.every_channel.ensures)
+    rw (c.in-Channels.is) (subst
+    (λ (l : List SendValue). SendsFirstOfSlot g.B.Bus.may (g.B.Bus.seen c.args.bus.now).script
+    (g.B.Bus.seen c.args.bus.now).log (g.B.Bus.seen c.send_targets.new.bus).log l before c.send_targets.new.traffic)
+    (all_targets c.args.mission.now before.cycle before.slot (received node.channel) node c.in-Channels.targets
+    c.every_channel.result c.flags.ensures.members c.every_channel.ensures)
     (c.in-Err.ensures.some received stands))
 
 pub returns-in-Switchboard-clause-sent : goal.returns-in-Switchboard-clause-sent
@@ -44,7 +56,9 @@ returns-in-Switchboard-clause-sent g c = λ received stands.
     let node = c.args.node.now in
     let before = c.args.traffic.now in
     let held = c.requires in
-    rw (c.in-Switchboard.is) (subst (λ (l : List SendValue). SendsSlot g.B.Bus.may (g.B.Bus.seen c.args.bus.now).script (g.B.Bus.seen c.args.bus.now).log (g.B.Bus.seen c.args.bus.now).log l before before)
+    rw (c.in-Switchboard.is) (subst
+    (λ (l : List SendValue). SendsSlot g.B.Bus.may (g.B.Bus.seen c.args.bus.now).script
+    (g.B.Bus.seen c.args.bus.now).log (g.B.Bus.seen c.args.bus.now).log l before before)
     (none_outside c.args.mission.now before.cycle before.slot (received node.channel) (held.0 node.channel) node
     (ap has_targets (sym c.slot.ensures) ∙ sym c.has_targets.ensures ∙ c.if-has_targets.true) held.2.fits)
     (sends_none g.B.Bus.may (g.B.Bus.seen c.args.bus.now).script (g.B.Bus.seen c.args.bus.now).log before))

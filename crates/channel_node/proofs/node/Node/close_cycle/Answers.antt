@@ -19,13 +19,19 @@ returns c =
     let ws : List ℕ = written_blocks c.args.mission.now c.args.cycle in
     let up : c.args.self.now.state ≡ running r = search rules in
     let same : r ≡ d.part = cc (sym up ∙ d.runs) in
-    let had : r.progress.decided ≡ Some d.decided = subst (λ (x : RunningValue). x.progress.decided ≡ Some d.decided) (sym same) d.had in
+    let had : r.progress.decided ≡ Some d.decided =
+    subst (λ (x : RunningValue). x.progress.decided ≡ Some d.decided) (sym same) d.had in
     let set : c.distinct_blocks-written.result ≡ blocks_where (has ws) =
-    c.distinct_blocks-written.ensures ∙ ap (λ (t : TableValue). blocks_where (has (map (λ write. write.block) (table_writes t c.args.cycle)))) c.table.ensures in
+    c.distinct_blocks-written.ensures
+    ∙ ap (λ (t : TableValue). blocks_where (has (map (λ write. write.block) (table_writes t c.args.cycle))))
+    c.table.ensures in
     let chan : c.self.inside.channel ≡ c.args.self.now.channel = search rules in
     let same_rules : c.self.inside.rules ≡ c.args.self.now.rules = search rules in
     let state : c.close_cycle.new.self ≡ after_close M.rules ws d.decided r =
-    c.close_cycle.ensures.state d.decided ws had set ∙ ap (λ (x : RulesValue). after_close x ws d.decided r) c.rules.ensures in
+    c.close_cycle.ensures.state d.decided ws had set
+    ∙ ap (λ (x : RulesValue). after_close x ws d.decided r) c.rules.ensures in
     let answer : closed_value c.close_cycle.result ≡ closed_by M.rules.last (plan_in M.rules r.held) ws r.held.control =
-    c.close_cycle.ensures.answer ws set ∙ ap (λ (x : RulesValue). closed_by x.last (plan_in x r.held) ws r.held.control) c.rules.ensures in
-    rw (chan, same_rules) (closes M c.args.cycle c.args.self.now r c.close_cycle.new.self d.decided (closed_value c.close_cycle.result) up had state answer)
+    c.close_cycle.ensures.answer ws set
+    ∙ ap (λ (x : RulesValue). closed_by x.last (plan_in x r.held) ws r.held.control) c.rules.ensures in
+    rw (chan, same_rules) (closes M c.args.cycle c.args.self.now r c.close_cycle.new.self d.decided
+    (closed_value c.close_cycle.result) up had state answer)

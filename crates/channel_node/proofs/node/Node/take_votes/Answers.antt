@@ -11,4 +11,5 @@ returns-clause-line c =
     let chan : c.self.inside.channel ≡ c.args.self.now.channel = search rules in
     c.take_votes.ensures.line d (subst (λ (x : RunningValue). x.decided ≡ Some d) (sym same) had)
     ∙ ap (λ q. whole_line q c.args.mission.now.outputs c.in-Up.running d c.args.ballots.now) chan
-    ∙ ap (λ (x : RunningValue). whole_line c.args.self.now.channel c.args.mission.now.outputs x d c.args.ballots.now) same
+    ∙ ap (λ (x : RunningValue). whole_line c.args.self.now.channel c.args.mission.now.outputs x d c.args.ballots.now)
+    same

@@ -6,12 +6,16 @@ use Rattle.channel_node.proofs.running.Running.close_by.Goals as goal
 
 pub invariant_of-self : goal.invariant_of-self
 invariant_of-self c =
-    let closed : c.of.result ≡ closed_by c.args.rules.now.last c.plan-plan.result c.args.written.now c.self.inside.control = search rules in
+    let closed : c.of.result ≡ closed_by c.args.rules.now.last c.plan-plan.result c.args.written.now
+    c.self.inside.control = search rules in
     record {
-      tags = subst (λ (k : ControlValue). tags_fit (length c.self.inside.context) k.sweeping ≡ true) (sym c.close_cycle-closed.ensures.control)
-          (closed_fit c.args.rules.now.last c.decided.inside.removed c.plan-plan.result c.args.written.now (length c.self.inside.context) c.self.inside.control c.self.invariant.tags);
+      tags = subst (λ (k : ControlValue). tags_fit (length c.self.inside.context) k.sweeping ≡ true)
+          (sym c.close_cycle-closed.ensures.control)
+          (closed_fit c.args.rules.now.last c.decided.inside.removed c.plan-plan.result c.args.written.now
+          (length c.self.inside.context) c.self.inside.control c.self.invariant.tags);
       rest = subst (λ (x : ClosedValue). rest_fits (length c.self.inside.context) (Some x) ≡ true) (sym closed)
-          (closed_rest c.args.rules.now.last c.plan-plan.result c.args.written.now (length c.self.inside.context) c.self.inside.control c.self.invariant.tags);
+          (closed_rest c.args.rules.now.last c.plan-plan.result c.args.written.now (length c.self.inside.context)
+          c.self.inside.control c.self.invariant.tags);
       heard_codes = c.self.invariant.hearing_codes;
       hearing_codes = refl;
     }

@@ -12,9 +12,11 @@ pub invariant_of-self-2 : goal.invariant_of-self-2
 invariant_of-self-2 c =
     let blocks : length c.self.inside.context ≡ c.args.rules.now.blocks = search rules in
     record {
-      tags = subst (λ (k : ControlValue). tags_fit (length c.self.inside.context) k.sweeping ≡ true) (sym c.decide-decision.ensures.control)
+      tags = subst (λ (k : ControlValue). tags_fit (length c.self.inside.context) k.sweeping ≡ true)
+          (sym c.decide-decision.ensures.control)
           (decided_fit c.args.rules.now c.args.cycle (length c.self.inside.context) c.self.inside.control
-          (decided_by c.args.rules.now c.args.cycle c.self.inside.control c.agreed-agreed.result) blocks c.self.invariant.tags);
+          (decided_by c.args.rules.now c.args.cycle c.self.inside.control c.agreed-agreed.result) blocks
+          c.self.invariant.tags);
       rest = c.self.invariant.rest;
       heard_codes = c.self.invariant.heard_codes;
       hearing_codes = c.self.invariant.hearing_codes;
@@ -29,10 +31,12 @@ returns-clause-answer c =
     ∙ ap (agreed_from received) tree in
     let d = c.decide-decision.result in
     subst
-    (λ (a : Agreed). IsDecision c.args.rules.now c.args.cycle c.args.self.now.held.control a d.judged d.removed d.dropped d.started d.plan)
+    (λ (a : Agreed). IsDecision c.args.rules.now c.args.cycle c.args.self.now.held.control a d.judged d.removed
+    d.dropped d.started d.plan)
     told
     (subst
-    (λ (x : RunningValue). IsDecision c.args.rules.now c.args.cycle x.held.control c.agreed-agreed.result d.judged d.removed d.dropped d.started d.plan)
+    (λ (x : RunningValue). IsDecision c.args.rules.now c.args.cycle x.held.control c.agreed-agreed.result d.judged
+    d.removed d.dropped d.started d.plan)
     c.self.view_is
     (record {
       judged_are = c.decide-decision.ensures.judged;

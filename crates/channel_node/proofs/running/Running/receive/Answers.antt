@@ -10,8 +10,11 @@ pub returns-clause-state : goal.returns-clause-state
 returns-clause-state c =
     λ received stands none.
     let there : c.self.inside.tree ≡ Some c.in-Some.tree = sym c.in-Some.ensures.value in
-    let inside : TreeStandsFor c.self.inside.tree received = subst (λ (x : RunningValue). TreeStandsFor x.progress.tree received) (sym c.self.view_is) stands in
-    let tree : IsTreeFor received c.in-Some.tree = subst (λ (o : Option ExchangeTreeValue). TreeStandsFor o received) there inside in
-    let put : c.put.new.self ≡ tree_for (with_items c.args.round c.args.from (items_of_frame (option_copied c.args.frame)) received) c.in-Some.tree
+    let inside : TreeStandsFor c.self.inside.tree received =
+    subst (λ (x : RunningValue). TreeStandsFor x.progress.tree received) (sym c.self.view_is) stands in
+    let tree : IsTreeFor received c.in-Some.tree =
+    subst (λ (o : Option ExchangeTreeValue). TreeStandsFor o received) there inside in
+    let put : c.put.new.self ≡ tree_for
+    (with_items c.args.round c.args.from (items_of_frame (option_copied c.args.frame)) received) c.in-Some.tree
     = c.put.ensures received tree none in
     rw (← c.self.view_is, there, put) refl

@@ -8,7 +8,8 @@ use Rattle.channel_node.proofs.tree.RoundTree.agreed_word.Goals as goal
 pub returns-then-has-clause-agreed : goal.returns-then-has-clause-agreed
 returns-then-has-clause-agreed c =
     λ received stands.
-    let few : length c.self.inside.tree.members ≤ 7 = subst (λ (s : ChannelSet). length s ≤ 7) c.self.invariant.members c.self.invariant.few in
+    let few : length c.self.inside.tree.members ≤ 7 =
+    subst (λ (s : ChannelSet). length s ≤ 7) c.self.invariant.members c.self.invariant.few in
     let member : has c.self.inside.tree.members c.args.source ≡ true =
     ap (λ (s : ChannelSet). has s c.args.source) (sym c.self.invariant.members) ∙ sym c.has.ensures ∙ c.if-has.true in
     subst

@@ -12,8 +12,11 @@ pub returns : goal.returns
 returns c =
     λ received stands none.
     subst
-    (λ (x : ExchangeTreeValue). seen_tree c.put.new.self ≡ tree_for (with_items c.args.round c.args.from (items_of_frame (option_copied c.args.frame)) received) x)
+    (λ (x : ExchangeTreeValue). seen_tree c.put.new.self
+    ≡ tree_for (with_items c.args.round c.args.from (items_of_frame (option_copied c.args.frame)) received) x)
     c.self.view_is
-    (put_tree c.self.inside.tree c.put.new.self received c.args.round c.args.from (items_of_frame (option_copied c.args.frame))
-    (subst (λ (s : ChannelSet). length s ≤ 7) c.self.invariant.members c.self.invariant.few) c.put.ensures.same c.put.ensures.kept
+    (put_tree c.self.inside.tree c.put.new.self received c.args.round c.args.from
+    (items_of_frame (option_copied c.args.frame))
+    (subst (λ (s : ChannelSet). length s ≤ 7) c.self.invariant.members c.self.invariant.few) c.put.ensures.same
+    c.put.ensures.kept
     (subst (λ (x : ExchangeTreeValue). IsTreeFor received x) (sym c.self.view_is) stands) none)

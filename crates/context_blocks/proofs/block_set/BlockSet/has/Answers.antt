@@ -5,4 +5,5 @@ use Rattle.context_blocks.proofs.FlagSets.{where_has}
 use Rattle.context_blocks.proofs.block_set.BlockSet.has.Goals as goal
 
 pub returns : goal.returns
-returns c = sym (ap (λ set. has set c.args.block) (sym c.self.view_is) ∙ where_has 256 (flag_at c.self.inside.flags) c.args.block c.ranges.block.fits)
+returns c = sym (ap (λ set. has set c.args.block) (sym c.self.view_is)
+    ∙ where_has 256 (flag_at c.self.inside.flags) c.args.block c.ranges.block.fits)

@@ -8,6 +8,8 @@ pub returns : goal.returns
 returns c =
     let flags = c.self.inside.flags in
     let there : c.args.block < length flags = omega (arith, c.self.told, c.ranges.block.fits) in
-    where_alike 256 (flag_at (set flags c.args.block true)) (λ b. b == c.args.block || has (numbers_where 256 (flag_at flags)) b)
-    (λ b low. flag_set flags c.args.block b there ∙ ap (λ before. (b == c.args.block) || before) (sym (where_has 256 (flag_at flags) b low)))
+    where_alike 256 (flag_at (set flags c.args.block true))
+    (λ b. b == c.args.block || has (numbers_where 256 (flag_at flags)) b)
+    (λ b low. flag_set flags c.args.block b there
+    ∙ ap (λ before. (b == c.args.block) || before) (sym (where_has 256 (flag_at flags) b low)))
     ∙ ap (λ set. numbers_where 256 (λ b. b == c.args.block || has set b)) c.self.view_is

@@ -14,4 +14,5 @@ control_view w law active fresh counts units e seen =
     ap made e ∙ ap control_of_word seen
 
 pub returns : goal.returns
-returns c = control_view c.args.word.now c.word.inside.law c.word.inside.active c.word.inside.fresh c.alphas_of.result c.word.inside.alphas c.alphas_of.ensures c.word.view_is
+returns c = control_view c.args.word.now c.word.inside.law c.word.inside.active c.word.inside.fresh c.alphas_of.result
+    c.word.inside.alphas c.alphas_of.ensures c.word.view_is

@@ -16,7 +16,8 @@ has_own : {O : Type 0} (v : View O) (a : Actor) → v.actors ≡ a ∷ [] → 0 
 has_own v a is = let n = ap (times a) is in omega (arith, one_self a)
 
 -- and has made no step of the other
-made_none : {O : Type 0} (v : View O) (actor : Actor) (n : _) (a b : Actor) → actor ≡ a → one_if b a ≡ 0 → AreStepsOf actor n v.steps → made b v ≡ 0
+made_none : {O : Type 0} (v : View O) (actor : Actor) (n : _) (a b : Actor) → actor ≡ a → one_if b a ≡ 0 →
+    AreStepsOf actor n v.steps → made b v ≡ 0
 made_none v actor n a b is other steps = steps.alone b (ap (one_if b) is ∙ other)
 
 pub join_seat-requires : goal.join_seat-requires
@@ -29,7 +30,9 @@ join_seat-requires g c =
       search rules,
       search rules,
       search rules,
-      joins t.origin t.history t.due (t.origin key) (t.history key) _ _ _ _ task.actor sweep.actor (has_own task.seat.me.0 task.actor task.acts) (has_own sweep.seat.me.0 sweep.actor sweep.acts) task.waits sweep.waits,
+      joins t.origin t.history t.due (t.origin key) (t.history key) _ _ _ _ task.actor sweep.actor
+          (has_own task.seat.me.0 task.actor task.acts) (has_own sweep.seat.me.0 sweep.actor sweep.acts) task.waits
+          sweep.waits,
     )
 
 pub unreachable-requires : goal.unreachable-requires
@@ -38,8 +41,12 @@ unreachable-requires g c =
     let key = c.args.self.table.shared.key.value in
     let task = c.args.task in
     let sweep = c.args.sweep in
-    let back = gives_back t.origin t.history t.due (t.origin key) (t.history key) _ _ task.seat.me.0 sweep.seat.me.0 _ _ key (ap (λ m. m.0) c.join_seat.ensures.2) refl refl (task.acts ∙ ap (λ a. a ∷ []) c.requires.actors.0) (sweep.acts ∙ ap (λ a. a ∷ []) c.requires.actors.1) task.waits
-    (made_none task.seat.me.0 _ _ Task Sweep c.requires.actors.0 refl task.counts) (made_none sweep.seat.me.0 _ _ Sweep Task c.requires.actors.1 refl sweep.counts) c.close_with-closed.ensures.values.2 in
+    let back = gives_back t.origin t.history t.due (t.origin key) (t.history key) _ _ task.seat.me.0 sweep.seat.me.0 _ _
+    key (ap (λ m. m.0) c.join_seat.ensures.2) refl refl (task.acts ∙ ap (λ a. a ∷ []) c.requires.actors.0)
+    (sweep.acts ∙ ap (λ a. a ∷ []) c.requires.actors.1) task.waits
+    (made_none task.seat.me.0 _ _ Task Sweep c.requires.actors.0 refl task.counts)
+    (made_none sweep.seat.me.0 _ _ Sweep Task c.requires.actors.1 refl sweep.counts)
+    c.close_with-closed.ensures.values.2 in
     c.in_default.not-Some back.0 (some-injective _ _ (sym c.take-last.ensures.value ∙ back.1))
 
 pub returns-clause-closed : goal.returns-clause-closed
@@ -48,8 +55,12 @@ returns-clause-closed g c =
     let key = c.args.self.table.shared.key.value in
     let task = c.args.task in
     let sweep = c.args.sweep in
-    let back = gives_back t.origin t.history t.due (t.origin key) (t.history key) _ _ task.seat.me.0 sweep.seat.me.0 _ _ key (ap (λ m. m.0) c.join_seat.ensures.2) refl refl (task.acts ∙ ap (λ a. a ∷ []) c.requires.actors.0) (sweep.acts ∙ ap (λ a. a ∷ []) c.requires.actors.1) task.waits
-    (made_none task.seat.me.0 _ _ Task Sweep c.requires.actors.0 refl task.counts) (made_none sweep.seat.me.0 _ _ Sweep Task c.requires.actors.1 refl sweep.counts) c.close_with-closed.ensures.values.2 in
+    let back = gives_back t.origin t.history t.due (t.origin key) (t.history key) _ _ task.seat.me.0 sweep.seat.me.0 _ _
+    key (ap (λ m. m.0) c.join_seat.ensures.2) refl refl (task.acts ∙ ap (λ a. a ∷ []) c.requires.actors.0)
+    (sweep.acts ∙ ap (λ a. a ∷ []) c.requires.actors.1) task.waits
+    (made_none task.seat.me.0 _ _ Task Sweep c.requires.actors.0 refl task.counts)
+    (made_none sweep.seat.me.0 _ _ Sweep Task c.requires.actors.1 refl sweep.counts)
+    c.close_with-closed.ensures.values.2 in
     let taken : Some back.0 ≡ c.take-last.result = some-injective _ _ (sym back.1 ∙ c.take-last.ensures.value) in
     let here : Some back.0 ≡ Some c.in-Some.value = taken ∙ c.in-Some.is in
     let same : back.0 ≡ c.in-Some.value = cc in

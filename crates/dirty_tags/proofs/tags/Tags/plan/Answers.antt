@@ -11,19 +11,26 @@ planned c =
     let marks = c.self.inside.remaining in
     let blocks = c.self.inside.blocks in
     let cursor = c.self.inside.cursor in
-    let late : c.gather.new.plan ≡ take c.args.sweep (filter (is_marked marks) (range_with_len cursor (blocks - cursor)))
-    = first_gathered (filter (is_marked marks)) range_with_len c.gather.new.plan c.new-plan.result c.from.result c.args.sweep c.from-cursor.result cursor c.from-blocks.result blocks
+    let late : c.gather.new.plan
+    ≡ take c.args.sweep (filter (is_marked marks) (range_with_len cursor (blocks - cursor)))
+    = first_gathered (filter (is_marked marks)) range_with_len c.gather.new.plan c.new-plan.result c.from.result
+    c.args.sweep c.from-cursor.result cursor c.from-blocks.result blocks
     c.gather.ensures c.new-plan.ensures c.from.ensures c.from-cursor.ensures c.from-blocks.ensures in
-    let both : c.gather-2.new.plan ≡ take c.args.sweep (take c.args.sweep (filter (is_marked marks) (range_with_len cursor (blocks - cursor))) ++ filter (is_marked marks) (range_with_len 0 (cursor - 0)))
-    = then_gathered (λ n. filter (is_marked marks) (range_with_len 0 n)) c.gather-2.new.plan c.gather.new.plan _ c.from-2.result c.args.sweep c.from-cursor.result cursor
+    let both : c.gather-2.new.plan
+    ≡ take c.args.sweep (take c.args.sweep (filter (is_marked marks) (range_with_len cursor (blocks - cursor)))
+    ++ filter (is_marked marks) (range_with_len 0 (cursor - 0)))
+    = then_gathered (λ n. filter (is_marked marks) (range_with_len 0 n)) c.gather-2.new.plan c.gather.new.plan _
+    c.from-2.result c.args.sweep c.from-cursor.result cursor
     c.gather-2.ensures late c.from-2.ensures c.from-cursor.ensures in
-    seen_plan blocks cursor marks c.self.inside.written c.args.self.now c.self.view_is c.args.sweep c.gather-2.new.plan c.self.invariant.within both
+    seen_plan blocks cursor marks c.self.inside.written c.args.self.now c.self.view_is c.args.sweep c.gather-2.new.plan
+    c.self.invariant.within both
 
 pub returns-clause-tags : goal.returns-clause-tags
 returns-clause-tags c = planned c
 
 pub returns-clause-cycles : goal.returns-clause-cycles
-returns-clause-cycles c = λ cycles written stands. planned c ∙ stand_plan c.args.self.now cycles written stands c.args.sweep
+returns-clause-cycles c =
+    λ cycles written stands. planned c ∙ stand_plan c.args.self.now cycles written stands c.args.sweep
 
 pub returns-clause-below : goal.returns-clause-below
 returns-clause-below c =

@@ -9,10 +9,12 @@ counted c =
     let fits : c.self.inside.blocks ≤ length c.self.inside.remaining = omega arith in
     c.count.ensures.value
     ∙ ap (λ n. count_by (λ m. m) (take n c.self.inside.remaining)) c.from.ensures
-    ∙ count_seen c.self.inside.blocks c.self.inside.cursor c.self.inside.remaining c.self.inside.written c.args.self.now c.self.view_is fits
+    ∙ count_seen c.self.inside.blocks c.self.inside.cursor c.self.inside.remaining c.self.inside.written c.args.self.now
+    c.self.view_is fits
 
 pub returns-clause-tags : goal.returns-clause-tags
 returns-clause-tags c = counted c
 
 pub returns-clause-cycles : goal.returns-clause-cycles
-returns-clause-cycles c = λ cycles written stands. counted c ∙ ap length (stand_remain c.args.self.now cycles written stands)
+returns-clause-cycles c =
+    λ cycles written stands. counted c ∙ ap length (stand_remain c.args.self.now cycles written stands)

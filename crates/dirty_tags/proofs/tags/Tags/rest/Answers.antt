@@ -27,4 +27,5 @@ returns-clause-cycles c = λ cycles written stands. whole c ∙ stand_remain c.a
 pub returns-clause-below : goal.returns-clause-below
 returns-clause-below c =
     let P : List ℕ → Type 0 = λ xs. All (λ b. b < c.args.self.now.blocks) xs in
-    subst P (sym (whole c)) (rest_below c.self.inside.blocks c.self.inside.cursor c.self.inside.remaining c.self.inside.written c.args.self.now c.self.view_is)
+    subst P (sym (whole c)) (rest_below c.self.inside.blocks c.self.inside.cursor c.self.inside.remaining
+    c.self.inside.written c.args.self.now c.self.view_is)

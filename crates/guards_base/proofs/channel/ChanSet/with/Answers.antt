@@ -10,5 +10,6 @@ invariant_of-result c =
 
 pub returns : goal.returns
 returns c =
-    ap set_of_mask c.with_bit.ensures ∙ set_of_mask-with c.self.inside.bits c.c.inside.number c.self.invariant c.c.invariant
+    ap set_of_mask c.with_bit.ensures
+    ∙ set_of_mask-with c.self.inside.bits c.c.inside.number c.self.invariant c.c.invariant
     ∙ ap (λ set. union set (c.c.inside.number ∷ [])) c.self.view_is ∙ ap (λ q. union c.args.self (q ∷ [])) c.c.view_is

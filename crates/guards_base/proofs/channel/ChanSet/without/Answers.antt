@@ -5,5 +5,7 @@ use Rattle.guards_base.proofs.channel.ChanSet.without.Goals as goal
 
 pub returns : goal.returns
 returns c =
-    ap set_of_mask c.without_bit.ensures ∙ set_of_mask-without c.self.inside.bits c.c.inside.number c.self.invariant c.c.invariant
-    ∙ ap (λ set. without set (c.c.inside.number ∷ [])) c.self.view_is ∙ ap (λ q. without c.args.self (q ∷ [])) c.c.view_is
+    ap set_of_mask c.without_bit.ensures
+    ∙ set_of_mask-without c.self.inside.bits c.c.inside.number c.self.invariant c.c.invariant
+    ∙ ap (λ set. without set (c.c.inside.number ∷ [])) c.self.view_is
+    ∙ ap (λ q. without c.args.self (q ∷ [])) c.c.view_is

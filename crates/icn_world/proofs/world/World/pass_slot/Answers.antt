@@ -9,11 +9,13 @@ carry_to_active-requires-clause-stands g c =
       held.0,
       held.1,
       held.2,
-      enters_next c.args.slot c.args.self.now c.enter.new.self c.args.disturbance.now c.requires.on c.enter.ensures.kept c.enter.ensures.state held.0 held.1 held.2 held.3,
+      enters_next c.args.slot c.args.self.now c.enter.new.self c.args.disturbance.now c.requires.on c.enter.ensures.kept
+          c.enter.ensures.state held.0 held.1 held.2 held.3,
     )
 
 pub returns : goal.returns
 returns g c =
     after_step (MayEnter c.args.slot) c.args.self.now c.enter.ensures.kept
-    (enters_next c.args.slot c.args.self.now c.enter.new.self c.args.disturbance.now c.requires.on c.enter.ensures.kept c.enter.ensures.state)
+    (enters_next c.args.slot c.args.self.now c.enter.new.self c.args.disturbance.now c.requires.on c.enter.ensures.kept
+    c.enter.ensures.state)
     c.carry_to_active.ensures

@@ -17,11 +17,14 @@ returns-in_err-arrived g c = halted_by c.from_residual.result c.from_residual.en
 pub receive-requires-clause-stands : goal.receive-requires-clause-stands
 receive-requires-clause-stands g c =
     let held = c.requires.stands in
-    may_receive c.args.slot c.in_ok-arrived.arrived c.pass_slot.new.self c.pass_slot.new.disturbance held.0 (held.1 ++ c.in_ok-arrived.ensures.entries) held.2
+    may_receive c.args.slot c.in_ok-arrived.arrived c.pass_slot.new.self c.pass_slot.new.disturbance held.0
+    (held.1 ++ c.in_ok-arrived.ensures.entries) held.2
     (c.in_ok-arrived.ensures.ends held.0 held.1 held.2 held.3)
 
 pub returns : goal.returns
 returns g c =
-    then_step (λ u. IsWithinCycle c.args.slot (stage_after c.args.slot) (stage_after c.args.slot)) tt c.receive.new.self c.receive.ensures.kept
-    (receives_round c.args.slot c.in_ok-arrived.arrived c.pass_slot.new.self c.receive.new.self c.pass_slot.new.disturbance c.requires.low c.requires.high
+    then_step (λ u. IsWithinCycle c.args.slot (stage_after c.args.slot) (stage_after c.args.slot)) tt c.receive.new.self
+    c.receive.ensures.kept
+    (receives_round c.args.slot c.in_ok-arrived.arrived c.pass_slot.new.self c.receive.new.self
+    c.pass_slot.new.disturbance c.requires.low c.requires.high
     c.receive.ensures.kept c.receive.ensures.state) c.in_ok-arrived.ensures

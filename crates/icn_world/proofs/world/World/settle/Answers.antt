@@ -8,7 +8,8 @@ pub returns-in_err-ask : goal.returns-in_err-ask
 returns-in_err-ask g c = halted_by c.from_residual.result c.from_residual.ensures.1 c.in_err-ask.ensures
 
 pub round-requires-clause-stands : goal.round-requires-clause-stands
-round-requires-clause-stands g c = may_enter_then Request Round1 refl (λ earlier current steps within. within) c.requires c.in_ok-ask.ensures
+round-requires-clause-stands g c =
+    may_enter_then Request Round1 refl (λ earlier current steps within. within) c.requires c.in_ok-ask.ensures
 
 pub returns-in_err-round : goal.returns-in_err-round
 returns-in_err-round g c =
@@ -30,21 +31,25 @@ pub last_round-requires : goal.last_round-requires
 last_round-requires g c =
     may_enter_then Round2 Round3 refl (λ earlier current steps within. within) c.requires
     (then_slot Round1 Round2 refl (λ earlier current steps within. within)
-    (then_slot Request Round1 refl (λ earlier current steps within. within) c.in_ok-ask.ensures c.in_ok-round.ensures) c.in_ok-round-2.ensures)
+    (then_slot Request Round1 refl (λ earlier current steps within. within) c.in_ok-ask.ensures c.in_ok-round.ensures)
+    c.in_ok-round-2.ensures)
 
 pub returns-in_err-reconfiguration : goal.returns-in_err-reconfiguration
 returns-in_err-reconfiguration g c =
     then_slot Round2 Round3 refl (λ earlier current steps within. within)
     (then_slot Round1 Round2 refl (λ earlier current steps within. within)
-    (then_slot Request Round1 refl (λ earlier current steps within. within) c.in_ok-ask.ensures c.in_ok-round.ensures) c.in_ok-round-2.ensures)
-    (halted_by c.from_residual-in_err-reconfiguration.result c.from_residual-in_err-reconfiguration.ensures.1 c.in_err-reconfiguration.ensures)
+    (then_slot Request Round1 refl (λ earlier current steps within. within) c.in_ok-ask.ensures c.in_ok-round.ensures)
+    c.in_ok-round-2.ensures)
+    (halted_by c.from_residual-in_err-reconfiguration.result c.from_residual-in_err-reconfiguration.ensures.1
+    c.in_err-reconfiguration.ensures)
 
 pub pass_slot-requires-clause-stands : goal.pass_slot-requires-clause-stands
 pass_slot-requires-clause-stands g c =
     may_enter_then Round3 Tasks refl (λ earlier current steps decided. decided.stands) c.requires
     (then_slot Round2 Round3 refl (λ earlier current steps within. within)
     (then_slot Round1 Round2 refl (λ earlier current steps within. within)
-    (then_slot Request Round1 refl (λ earlier current steps within. within) c.in_ok-ask.ensures c.in_ok-round.ensures) c.in_ok-round-2.ensures)
+    (then_slot Request Round1 refl (λ earlier current steps within. within) c.in_ok-ask.ensures c.in_ok-round.ensures)
+    c.in_ok-round-2.ensures)
     c.in_ok-reconfiguration.ensures)
 
 pub returns-in_err-pass_slot : goal.returns-in_err-pass_slot
@@ -52,15 +57,18 @@ returns-in_err-pass_slot g c =
     then_slot Round3 Tasks refl (λ earlier current steps decided. decided.stands)
     (then_slot Round2 Round3 refl (λ earlier current steps within. within)
     (then_slot Round1 Round2 refl (λ earlier current steps within. within)
-    (then_slot Request Round1 refl (λ earlier current steps within. within) c.in_ok-ask.ensures c.in_ok-round.ensures) c.in_ok-round-2.ensures)
+    (then_slot Request Round1 refl (λ earlier current steps within. within) c.in_ok-ask.ensures c.in_ok-round.ensures)
+    c.in_ok-round-2.ensures)
     c.in_ok-reconfiguration.ensures)
-    (halted_by c.from_residual-in_err-pass_slot.result c.from_residual-in_err-pass_slot.ensures.1 c.in_err-pass_slot.ensures)
+    (halted_by c.from_residual-in_err-pass_slot.result c.from_residual-in_err-pass_slot.ensures.1
+    c.in_err-pass_slot.ensures)
 
 pub returns : goal.returns
 returns g c =
     then_settled _ _
     (then_slot Round2 Round3 refl (λ earlier current steps within. within)
     (then_slot Round1 Round2 refl (λ earlier current steps within. within)
-    (then_slot Request Round1 refl (λ earlier current steps within. within) c.in_ok-ask.ensures c.in_ok-round.ensures) c.in_ok-round-2.ensures)
+    (then_slot Request Round1 refl (λ earlier current steps within. within) c.in_ok-ask.ensures c.in_ok-round.ensures)
+    c.in_ok-round-2.ensures)
     c.in_ok-reconfiguration.ensures)
     c.in_ok-pass_slot.ensures

@@ -11,8 +11,11 @@ take_votes-requires g c = may_vote_by c.args.self.now _ c.self.view_is c.require
 pub returns-clause-state : goal.returns-clause-state
 returns-clause-state g c = λ earlier current steps inside are worked.
     hands_by c.args.self.now _ earlier current steps Vote 6 5 6 c.take_votes.new.self c.self.view_is inside
-    (λ held. c.in_ok-lines.ensures.state ∙ voted_by c.args.self.now _ earlier current steps (g.A.Arrived.got c.args.arrived.now) c.self.view_is are worked held)
+    (λ held. c.in_ok-lines.ensures.state
+    ∙ voted_by c.args.self.now _ earlier current steps (g.A.Arrived.got c.args.arrived.now) c.self.view_is are
+    worked held)
 
 pub returns-clause-lines : goal.returns-clause-lines
 returns-clause-lines g c = λ earlier current steps inside are worked.
-    tells_by c.args.self.now _ earlier current steps (g.A.Arrived.got c.args.arrived.now) _ c.self.view_is c.in_ok-lines.ensures.lines inside are worked
+    tells_by c.args.self.now _ earlier current steps (g.A.Arrived.got c.args.arrived.now) _ c.self.view_is
+    c.in_ok-lines.ensures.lines inside are worked

@@ -11,5 +11,6 @@ pub returns-clause-worked : goal.returns-clause-worked
 returns-clause-worked g c = (
   made_by c.work.new.self,
   λ earlier current steps inside.
-      work_by c.args.self.now _ earlier current steps c.work.new.self c.in_ok-traces.traces.items c.self.view_is inside c.in_ok-traces.ensures.worked c.in_ok-traces.ensures.traces,
+      work_by c.args.self.now _ earlier current steps c.work.new.self c.in_ok-traces.traces.items c.self.view_is inside
+      c.in_ok-traces.ensures.worked c.in_ok-traces.ensures.traces,
 )

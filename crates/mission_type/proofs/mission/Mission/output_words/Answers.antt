@@ -18,6 +18,7 @@ loop-place-preserved c =
     let long : length outputs ≡ length c.self.inside.outputs.items = ap length c.as_slice-outputs.ensures in
     rw (to_z-of_z w64 word fits)
     (record {
-      done = words_more _ outputs c.loop-place.words c.loop-place.place (0, 0) word c.loop-place-test.true (omega (arith, long, few, eight, c.loop-place-test.true)) c.word_at.ensures c.loop-place.invariant.done;
+      done = words_more _ outputs c.loop-place.words c.loop-place.place (0, 0) word c.loop-place-test.true
+          (omega (arith, long, few, eight, c.loop-place-test.true)) c.word_at.ensures c.loop-place.invariant.done;
       eight = length-set c.loop-place.words c.loop-place.place word ∙ eight;
     })

@@ -9,6 +9,9 @@ returns c =
     let p = c.args.place in
     let labels = c.self.inside.labels in
     let left = c.from-left.result - 1 in
-    two_back_at c.self.inside.active c.self.inside.count labels c.self.inside.below c.args.self.now c.self.invariant c.self.view_is p c.requires
-    ∙ ap (λ n. get_or labels (skipped (p / (n - 1)) (p % (n - 1))) 0 ∷ get_or labels (p / (n - 1)) 0 ∷ []) (sym c.from-left.ensures)
-    ∙ ap (λ s. get_or labels (p % left + s) 0 ∷ get_or labels (p / left) 0 ∷ []) (byte_is (nat_le (p / left) (p % left)) ∙ sym c.from-skip.ensures)
+    two_back_at c.self.inside.active c.self.inside.count labels c.self.inside.below c.args.self.now c.self.invariant
+    c.self.view_is p c.requires
+    ∙ ap (λ n. get_or labels (skipped (p / (n - 1)) (p % (n - 1))) 0 ∷ get_or labels (p / (n - 1)) 0 ∷ [])
+    (sym c.from-left.ensures)
+    ∙ ap (λ s. get_or labels (p % left + s) 0 ∷ get_or labels (p / left) 0 ∷ [])
+    (byte_is (nat_le (p / left) (p % left)) ∙ sym c.from-skip.ensures)

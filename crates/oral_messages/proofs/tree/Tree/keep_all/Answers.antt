@@ -13,13 +13,16 @@ pub keep-requires-clause-ranges : goal.keep-requires-clause-ranges
 keep-requires-clause-ranges c =
     let bound = c.loop-left.invariant.bound in
     let lt : c.loop-left.left - 1 < length c.args.items.now = omega arith in
-    in_range_at (item_in_range c.args.from c.args.round) c.args.items.now (c.loop-left.left - 1) c.index-items-left.result c.requires.ranges lt c.index-items-left.is
+    in_range_at (item_in_range c.args.from c.args.round) c.args.items.now (c.loop-left.left - 1)
+    c.index-items-left.result c.requires.ranges lt c.index-items-left.is
 
 pub loop-left-preserved : goal.loop-left-preserved
 loop-left-preserved c =
     let one : (c.loop-left.left - 1) + 1 ≡ c.loop-left.left = omega arith in
-    kept_more c.args.self.now c.loop-left.self c.keep.new.self c.args.round c.args.from c.args.items.now c.loop-left.left (c.loop-left.left - 1) c.index-items-left.result one c.index-items-left.is
+    kept_more c.args.self.now c.loop-left.self c.keep.new.self c.args.round c.args.from c.args.items.now
+    c.loop-left.left (c.loop-left.left - 1) c.index-items-left.result one c.index-items-left.is
     c.loop-left.invariant c.keep.ensures.same c.keep.ensures.kept
 
 pub returns-clause-kept : goal.returns-clause-kept
-returns-clause-kept c = kept_all c.args.self.now c.loop-left.self c.args.round c.args.from c.args.items.now c.loop-left.left (omega arith) c.loop-left.invariant
+returns-clause-kept c = kept_all c.args.self.now c.loop-left.self c.args.round c.args.from c.args.items.now
+    c.loop-left.left (omega arith) c.loop-left.invariant

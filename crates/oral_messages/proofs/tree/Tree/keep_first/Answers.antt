@@ -7,17 +7,23 @@ use Rattle.oral_messages.proofs.tree.Tree.keep_first.Goals as goal
 
 pub index_mut-requires : goal.index_mut-requires
 index_mut-requires c =
-    let member : IsTrue (has c.self.inside.members c.args.a) = subst (λ (t : TreeValue). IsTrue (has t.members c.args.a)) (sym c.self.view_is) c.requires.member in
-    let below = first_below c.self.inside.members (c.args.a ∷ []) c.self.invariant.set (source_path c.self.inside.members c.args.a member) refl in
+    let member : IsTrue (has c.self.inside.members c.args.a) =
+    subst (λ (t : TreeValue). IsTrue (has t.members c.args.a)) (sym c.self.view_is) c.requires.member in
+    let below = first_below c.self.inside.members (c.args.a ∷ []) c.self.invariant.set
+    (source_path c.self.inside.members c.args.a member) refl in
     let small = below.0 in
     let place = c.first-place.ensures in
     omega arith
 
 pub index_mut-requires-then-count-ge4 : goal.index_mut-requires-then-count-ge4
 index_mut-requires-then-count-ge4 c =
-    let member : IsTrue (has c.self.inside.members c.args.a) = subst (λ (t : TreeValue). IsTrue (has t.members c.args.a)) (sym c.self.view_is) c.requires.member in
-    let ne : c.args.a ≢ c.self.inside.me = subst (λ (t : TreeValue). c.args.a ≢ t.me) (sym c.self.view_is) c.requires.another in
-    let path = own_path c.self.inside.members c.self.inside.me (c.args.a ∷ []) (source_path c.self.inside.members c.args.a member) c.self.invariant.mine (apart_one c.args.a c.self.inside.me ne) in
+    let member : IsTrue (has c.self.inside.members c.args.a) =
+    subst (λ (t : TreeValue). IsTrue (has t.members c.args.a)) (sym c.self.view_is) c.requires.member in
+    let ne : c.args.a ≢ c.self.inside.me =
+    subst (λ (t : TreeValue). c.args.a ≢ t.me) (sym c.self.view_is) c.requires.another in
+    let path = own_path c.self.inside.members c.self.inside.me (c.args.a ∷ [])
+    (source_path c.self.inside.members c.args.a member) c.self.invariant.mine
+    (apart_one c.args.a c.self.inside.me ne) in
     let below = second_below c.self.inside.members (c.self.inside.me ∷ c.args.a ∷ []) c.self.invariant.set path refl in
     let many : 4 ≤ length c.self.inside.members = omega arith in
     let long = c.self.invariant.second many in
@@ -65,10 +71,14 @@ returns-else-count-ge4 c =
 
 pub first-place-requires : goal.first-place-requires
 first-place-requires c =
-    source_path c.self.inside.members c.args.a (subst (λ (t : TreeValue). IsTrue (has t.members c.args.a)) (sym c.self.view_is) c.requires.member)
+    source_path c.self.inside.members c.args.a
+    (subst (λ (t : TreeValue). IsTrue (has t.members c.args.a)) (sym c.self.view_is) c.requires.member)
 
 pub second-told-requires : goal.second-told-requires
 second-told-requires c =
-    let member : IsTrue (has c.self.inside.members c.args.a) = subst (λ (t : TreeValue). IsTrue (has t.members c.args.a)) (sym c.self.view_is) c.requires.member in
-    let ne : c.args.a ≢ c.self.inside.me = subst (λ (t : TreeValue). c.args.a ≢ t.me) (sym c.self.view_is) c.requires.another in
-    own_path c.self.inside.members c.self.inside.me (c.args.a ∷ []) (source_path c.self.inside.members c.args.a member) c.self.invariant.mine (apart_one c.args.a c.self.inside.me ne)
+    let member : IsTrue (has c.self.inside.members c.args.a) =
+    subst (λ (t : TreeValue). IsTrue (has t.members c.args.a)) (sym c.self.view_is) c.requires.member in
+    let ne : c.args.a ≢ c.self.inside.me =
+    subst (λ (t : TreeValue). c.args.a ≢ t.me) (sym c.self.view_is) c.requires.another in
+    own_path c.self.inside.members c.self.inside.me (c.args.a ∷ []) (source_path c.self.inside.members c.args.a member)
+    c.self.invariant.mine (apart_one c.args.a c.self.inside.me ne)

@@ -7,8 +7,11 @@ use Rattle.oral_messages.proofs.tree.Tree.keep_second.Goals as goal
 
 pub index_mut-requires : goal.index_mut-requires
 index_mut-requires c =
-    let path : IsTrue (is_path c.self.inside.members (c.args.b ∷ c.args.a ∷ [])) = subst (λ (t : TreeValue). IsTrue (is_path t.members (c.args.b ∷ c.args.a ∷ []))) (sym c.self.view_is) c.requires.path in
-    let many : 4 ≤ length c.self.inside.members = subst (λ (t : TreeValue). 4 ≤ length t.members) (sym c.self.view_is) c.requires.many in
+    let path : IsTrue (is_path c.self.inside.members (c.args.b ∷ c.args.a ∷ [])) =
+    subst (λ (t : TreeValue). IsTrue (is_path t.members (c.args.b ∷ c.args.a ∷ []))) (sym c.self.view_is)
+    c.requires.path in
+    let many : 4 ≤ length c.self.inside.members =
+    subst (λ (t : TreeValue). 4 ≤ length t.members) (sym c.self.view_is) c.requires.many in
     let long = c.self.invariant.second many in
     let below = second_below c.self.inside.members (c.args.b ∷ c.args.a ∷ []) c.self.invariant.set path refl in
     let small = below.0 in
@@ -17,10 +20,15 @@ index_mut-requires c =
 
 pub index_mut-requires-then-a-self : goal.index_mut-requires-then-a-self
 index_mut-requires-then-a-self c =
-    let front : IsTrue (is_path c.self.inside.members (c.args.b ∷ c.args.a ∷ [])) = subst (λ (t : TreeValue). IsTrue (is_path t.members (c.args.b ∷ c.args.a ∷ []))) (sym c.self.view_is) c.requires.path in
-    let ne : c.args.b ≢ c.self.inside.me = subst (λ (t : TreeValue). c.args.b ≢ t.me) (sym c.self.view_is) c.requires.another in
-    let path = own_path c.self.inside.members c.self.inside.me (c.args.b ∷ c.args.a ∷ []) front c.self.invariant.mine (apart_two c.args.a c.args.b c.self.inside.me c.if-a-self.true ne) in
-    let below = third_below c.self.inside.members (c.self.inside.me ∷ c.args.b ∷ c.args.a ∷ []) c.self.invariant.set path refl in
+    let front : IsTrue (is_path c.self.inside.members (c.args.b ∷ c.args.a ∷ [])) =
+    subst (λ (t : TreeValue). IsTrue (is_path t.members (c.args.b ∷ c.args.a ∷ []))) (sym c.self.view_is)
+    c.requires.path in
+    let ne : c.args.b ≢ c.self.inside.me =
+    subst (λ (t : TreeValue). c.args.b ≢ t.me) (sym c.self.view_is) c.requires.another in
+    let path = own_path c.self.inside.members c.self.inside.me (c.args.b ∷ c.args.a ∷ []) front c.self.invariant.mine
+    (apart_two c.args.a c.args.b c.self.inside.me c.if-a-self.true ne) in
+    let below = third_below c.self.inside.members (c.self.inside.me ∷ c.args.b ∷ c.args.a ∷ []) c.self.invariant.set
+    path refl in
     let many : 7 ≤ length c.self.inside.members = omega arith in
     let long = c.self.invariant.third many in
     let place = c.third-told.ensures in
@@ -62,7 +70,8 @@ returns-else-count-eq7 c =
       same = record { members = refl; me = refl; width = refl; own = refl };
       first = refl;
       second = ap (λ p. slice_set c.self.inside.second.items p c.args.word.now) c.second-place.ensures;
-      third = λ many ne. let few = few_members c.self.inside.members c.self.invariant.set in let other = c.if-count-eq7.false in absurd (omega arith);
+      third = λ many ne. let few = few_members c.self.inside.members c.self.invariant.set in let other =
+          c.if-count-eq7.false in absurd (omega arith);
       own = λ e. refl;
     })
 
@@ -88,6 +97,10 @@ returns-else-a-self c =
 
 pub third-told-requires : goal.third-told-requires
 third-told-requires c =
-    let front : IsTrue (is_path c.self.inside.members (c.args.b ∷ c.args.a ∷ [])) = subst (λ (t : TreeValue). IsTrue (is_path t.members (c.args.b ∷ c.args.a ∷ []))) (sym c.self.view_is) c.requires.path in
-    let ne : c.args.b ≢ c.self.inside.me = subst (λ (t : TreeValue). c.args.b ≢ t.me) (sym c.self.view_is) c.requires.another in
-    own_path c.self.inside.members c.self.inside.me (c.args.b ∷ c.args.a ∷ []) front c.self.invariant.mine (apart_two c.args.a c.args.b c.self.inside.me c.if-a-self.true ne)
+    let front : IsTrue (is_path c.self.inside.members (c.args.b ∷ c.args.a ∷ [])) =
+    subst (λ (t : TreeValue). IsTrue (is_path t.members (c.args.b ∷ c.args.a ∷ []))) (sym c.self.view_is)
+    c.requires.path in
+    let ne : c.args.b ≢ c.self.inside.me =
+    subst (λ (t : TreeValue). c.args.b ≢ t.me) (sym c.self.view_is) c.requires.another in
+    own_path c.self.inside.members c.self.inside.me (c.args.b ∷ c.args.a ∷ []) front c.self.invariant.mine
+    (apart_two c.args.a c.args.b c.self.inside.me c.if-a-self.true ne)

@@ -7,10 +7,14 @@ use Rattle.oral_messages.proofs.tree.Tree.keep_third.Goals as goal
 
 pub index_mut-requires : goal.index_mut-requires
 index_mut-requires c =
-    let path : IsTrue (is_path c.self.inside.members (c.args.c ∷ c.args.b ∷ c.args.a ∷ [])) = subst (λ (t : TreeValue). IsTrue (is_path t.members (c.args.c ∷ c.args.b ∷ c.args.a ∷ []))) (sym c.self.view_is) c.requires.path in
-    let many : 7 ≤ length c.self.inside.members = subst (λ (t : TreeValue). 7 ≤ length t.members) (sym c.self.view_is) c.requires.many in
+    let path : IsTrue (is_path c.self.inside.members (c.args.c ∷ c.args.b ∷ c.args.a ∷ [])) =
+    subst (λ (t : TreeValue). IsTrue (is_path t.members (c.args.c ∷ c.args.b ∷ c.args.a ∷ []))) (sym c.self.view_is)
+    c.requires.path in
+    let many : 7 ≤ length c.self.inside.members =
+    subst (λ (t : TreeValue). 7 ≤ length t.members) (sym c.self.view_is) c.requires.many in
     let long = c.self.invariant.third many in
-    let below = third_below c.self.inside.members (c.args.c ∷ c.args.b ∷ c.args.a ∷ []) c.self.invariant.set path refl in
+    let below = third_below c.self.inside.members (c.args.c ∷ c.args.b ∷ c.args.a ∷ []) c.self.invariant.set path
+    refl in
     let place = c.third-place.ensures in
     omega arith
 

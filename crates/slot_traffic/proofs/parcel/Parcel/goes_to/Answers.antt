@@ -10,4 +10,5 @@ use Rattle.slot_traffic.proofs.parcel.Parcel.goes_to.Goals as goal
 pub returns : goal.returns
 returns c = rw (← c.self.view_is)
     (c.goes_to.ensures ∙ ap (list_any (λ (p : Piece). p.to == c.args.to)) c.as_slice.ensures
-    ∙ sym (any-map (λ (p : PieceValue). p.to == c.args.to) (piece_value (spelling c.self.inside.frame)) c.self.inside.pieces.items))
+    ∙ sym (any-map (λ (p : PieceValue). p.to == c.args.to) (piece_value (spelling c.self.inside.frame))
+    c.self.inside.pieces.items))

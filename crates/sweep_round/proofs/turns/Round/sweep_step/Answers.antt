@@ -10,7 +10,8 @@ invariant_of-self-clause-replay g c =
     let r = c.args.self.now in
     let o = start_origin (round_start r) in
     let d =
-    copied o r.history.items r.context r.feed.producer.end.past r.writes r.copies c.get-block.result c.get-words.result.words r.replay r.made
+    copied o r.history.items r.context r.feed.producer.end.past r.writes r.copies c.get-block.result
+    c.get-words.result.words r.replay r.made
     (omega (arith, c.if-self-len.false, c.len.ensures.value)) c.get-block.ensures c.get-words.ensures in
     subst (λ l. IsReplay o (actors_of l) r.context c.put.new.self.producer.end.past) (sym c.push_reserved.ensures.items)
     (subst (λ p. IsReplay o (actors_of (r.history.items ++ 1 ∷ [])) r.context p) (sym c.put.ensures.sent) d.replay)
@@ -20,11 +21,13 @@ invariant_of-self-clause-made g c =
     let r = c.args.self.now in
     let o = start_origin (round_start r) in
     let d =
-    copied o r.history.items r.context r.feed.producer.end.past r.writes r.copies c.get-block.result c.get-words.result.words r.replay r.made
+    copied o r.history.items r.context r.feed.producer.end.past r.writes r.copies c.get-block.result
+    c.get-words.result.words r.replay r.made
     (omega (arith, c.if-self-len.false, c.len.ensures.value)) c.get-block.ensures c.get-words.ensures in
     subst (λ l. AreMade o (actors_of l) r.writes (r.copies + 1)) (sym c.push_reserved.ensures.items) d.made_are
 
 pub invariant_of-self-clause-numbers : goal.invariant_of-self-clause-numbers
 invariant_of-self-clause-numbers g c =
     let r = c.args.self.now in
-    subst (λ l. l ≡ map step_number (actors_of l)) (sym c.push_reserved.ensures.items) (numbers_more r.history.items 1 refl r.numbers)
+    subst (λ l. l ≡ map step_number (actors_of l)) (sym c.push_reserved.ensures.items)
+    (numbers_more r.history.items 1 refl r.numbers)

@@ -28,15 +28,19 @@ blocks_of-requires c =
     let tasks = c.self.inside.tasks.items in
     let rows = c.self.inside.rows.items in
     let kept = rules_of c.self.inside.blocks tasks (places_of rows) c.self.invariant.faultless in
-    let turn : c.as_slice-2.result.now ≡ row_in_turn (places_of rows) c.args.cycle = c.as_slice-2.ensures ∙ c.row_of.ensures in
-    turn_names tasks c.as_slice.result.now rows c.as_slice-2.result.now c.args.cycle c.as_slice.ensures turn c.self.invariant.named
+    let turn : c.as_slice-2.result.now ≡ row_in_turn (places_of rows) c.args.cycle =
+    c.as_slice-2.ensures ∙ c.row_of.ensures in
+    turn_names tasks c.as_slice.result.now rows c.as_slice-2.result.now c.args.cycle c.as_slice.ensures turn
+    c.self.invariant.named
 
 pub returns : goal.returns
 returns c =
     let tasks = c.self.inside.tasks.items in
     let rows = c.self.inside.rows.items in
     let kept = rules_of c.self.inside.blocks tasks (places_of rows) c.self.invariant.faultless in
-    let turn : c.as_slice-2.result.now ≡ row_in_turn (places_of rows) c.args.cycle = c.as_slice-2.ensures ∙ c.row_of.ensures in
+    let turn : c.as_slice-2.result.now ≡ row_in_turn (places_of rows) c.args.cycle =
+    c.as_slice-2.ensures ∙ c.row_of.ensures in
     c.blocks_of.ensures.set
     ∙ ap (λ ws. blocks_where (has (blocks_in ws)))
-    (writes_in_turn tasks c.as_slice.result.now rows c.as_slice-2.result.now c.self.inside.blocks c.self.inside.width c.args.cycle c.args.self.now c.as_slice.ensures turn c.self.view_is)
+    (writes_in_turn tasks c.as_slice.result.now rows c.as_slice-2.result.now c.self.inside.blocks c.self.inside.width
+    c.args.cycle c.args.self.now c.as_slice.ensures turn c.self.view_is)

@@ -22,14 +22,16 @@ overflow_cast-result c =
     let rows = c.self.inside.rows.items in
     let kept = rules_of c.self.inside.blocks tasks (places_of rows) c.self.invariant.faultless in
     let short : length c.get.result.now.items ≤ 16 =
-    leb-true (length c.get.result.now.items) 16 (row_passes (λ r. nat_le (length r) 16) rows c.args.row c.get.result.now c.get.ensures kept.short_rows) in
+    leb-true (length c.get.result.now.items) 16
+    (row_passes (λ r. nat_le (length r) 16) rows c.args.row c.get.result.now c.get.ensures kept.short_rows) in
     omega (arith, short, c.len.ensures)
 
 pub returns-clause-count : goal.returns-clause-count
 returns-clause-count c =
     let tasks = c.self.inside.tasks.items in
     let rows = c.self.inside.rows.items in
-    c.len.ensures ∙ sym (length-map c.get.result.now.items (nth_task tasks)) ∙ sym (ap length (named_at tasks rows c.args.row c.get.result.now c.get.ensures))
+    c.len.ensures ∙ sym (length-map c.get.result.now.items (nth_task tasks))
+    ∙ sym (ap length (named_at tasks rows c.args.row c.get.result.now c.get.ensures))
     ∙ ap (λ t. length (tasks_in_row t.rows c.args.row)) c.self.view_is
 
 pub returns-clause-few : goal.returns-clause-few
@@ -38,5 +40,6 @@ returns-clause-few c =
     let rows = c.self.inside.rows.items in
     let kept = rules_of c.self.inside.blocks tasks (places_of rows) c.self.invariant.faultless in
     let short : length c.get.result.now.items ≤ 16 =
-    leb-true (length c.get.result.now.items) 16 (row_passes (λ r. nat_le (length r) 16) rows c.args.row c.get.result.now c.get.ensures kept.short_rows) in
+    leb-true (length c.get.result.now.items) 16
+    (row_passes (λ r. nat_le (length r) 16) rows c.args.row c.get.result.now c.get.ensures kept.short_rows) in
     omega (arith, short, c.len.ensures)

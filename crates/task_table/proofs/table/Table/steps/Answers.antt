@@ -28,8 +28,10 @@ count_writes-requires-clause-named c =
     let tasks = c.self.inside.tasks.items in
     let rows = c.self.inside.rows.items in
     let kept = rules_of c.self.inside.blocks tasks (places_of rows) c.self.invariant.faultless in
-    let turn : c.as_slice-2.result.now ≡ row_in_turn (places_of rows) c.args.cycle = c.as_slice-2.ensures ∙ c.row_of.ensures in
-    turn_names tasks c.as_slice.result.now rows c.as_slice-2.result.now c.args.cycle c.as_slice.ensures turn c.self.invariant.named
+    let turn : c.as_slice-2.result.now ≡ row_in_turn (places_of rows) c.args.cycle =
+    c.as_slice-2.ensures ∙ c.row_of.ensures in
+    turn_names tasks c.as_slice.result.now rows c.as_slice-2.result.now c.args.cycle c.as_slice.ensures turn
+    c.self.invariant.named
 
 pub count_writes-requires-clause-few : goal.count_writes-requires-clause-few
 count_writes-requires-clause-few c =
@@ -43,7 +45,8 @@ count_writes-requires-clause-short c =
     let tasks = c.self.inside.tasks.items in
     let rows = c.self.inside.rows.items in
     let kept = rules_of c.self.inside.blocks tasks (places_of rows) c.self.invariant.faultless in
-    let turn : c.as_slice-2.result.now ≡ row_in_turn (places_of rows) c.args.cycle = c.as_slice-2.ensures ∙ c.row_of.ensures in
+    let turn : c.as_slice-2.result.now ≡ row_in_turn (places_of rows) c.args.cycle =
+    c.as_slice-2.ensures ∙ c.row_of.ensures in
     subst (λ r. length r ≤ 16) (sym turn) (turn_short (places_of rows) c.args.cycle kept.short_rows)
 
 pub returns-clause-count : goal.returns-clause-count
@@ -51,6 +54,8 @@ returns-clause-count c =
     let tasks = c.self.inside.tasks.items in
     let rows = c.self.inside.rows.items in
     let kept = rules_of c.self.inside.blocks tasks (places_of rows) c.self.invariant.faultless in
-    let turn : c.as_slice-2.result.now ≡ row_in_turn (places_of rows) c.args.cycle = c.as_slice-2.ensures ∙ c.row_of.ensures in
+    let turn : c.as_slice-2.result.now ≡ row_in_turn (places_of rows) c.args.cycle =
+    c.as_slice-2.ensures ∙ c.row_of.ensures in
     c.count_writes.ensures.count
-    ∙ ap length (writes_in_turn tasks c.as_slice.result.now rows c.as_slice-2.result.now c.self.inside.blocks c.self.inside.width c.args.cycle c.args.self.now c.as_slice.ensures turn c.self.view_is)
+    ∙ ap length (writes_in_turn tasks c.as_slice.result.now rows c.as_slice-2.result.now c.self.inside.blocks
+    c.self.inside.width c.args.cycle c.args.self.now c.as_slice.ensures turn c.self.view_is)

@@ -21,14 +21,17 @@ get-number-requires c =
     let tasks = c.self.inside.tasks.items in
     let rows = c.self.inside.rows.items in
     let size : length (tasks_in_row c.args.self.now.rows c.args.row) ≡ length c.get.result.now.items =
-    sym (ap (λ t. length (tasks_in_row t.rows c.args.row)) c.self.view_is) ∙ ap length (named_at tasks rows c.args.row c.get.result.now c.get.ensures) ∙ length-map c.get.result.now.items (nth_task tasks) in
+    sym (ap (λ t. length (tasks_in_row t.rows c.args.row)) c.self.view_is)
+    ∙ ap length (named_at tasks rows c.args.row c.get.result.now c.get.ensures)
+    ∙ length-map c.get.result.now.items (nth_task tasks) in
     omega (arith, size, c.requires.place)
 
 pub get-requires-2 : goal.get-requires-2
 get-requires-2 c =
     let tasks = c.self.inside.tasks.items in
     let rows = c.self.inside.rows.items in
-    let named = row_passes (names_tasks (length tasks)) rows c.args.row c.get.result.now c.get.ensures c.self.invariant.named in
+    let named = row_passes (names_tasks (length tasks)) rows c.args.row c.get.result.now c.get.ensures
+    c.self.invariant.named in
     place_there (length tasks) c.get.result.now.items c.args.place c.get-number.result.now c.get-number.ensures named
 
 pub returns : goal.returns
@@ -37,4 +40,5 @@ returns c =
     let rows = c.self.inside.rows.items in
     sym (ap (λ t. slice_get (tasks_in_row t.rows c.args.row) c.args.place) c.self.view_is)
     ∙ ap (λ ts. slice_get ts c.args.place) (named_at tasks rows c.args.row c.get.result.now c.get.ensures)
-    ∙ named_task tasks c.get.result.now.items c.args.place c.get-number.result.now c.get-2.result.now c.get-number.ensures c.get-2.ensures
+    ∙ named_task tasks c.get.result.now.items c.args.place c.get-number.result.now c.get-2.result.now
+    c.get-number.ensures c.get-2.ensures

@@ -13,9 +13,11 @@ some_alike (Some e) = refl
 
 any_alike : (set : List (Option Expr)) → list_any is_some set ≡ list_any is_some (map (option_map tree) set)
 any_alike [] = refl
-any_alike (o ∷ set) = ap (λ b. b || list_any is_some set) (some_alike o) ∙ ap (λ b. is_some (option_map tree o) || b) (any_alike set)
+any_alike (o ∷ set) = ap (λ b. b || list_any is_some set) (some_alike o)
+    ∙ ap (λ b. is_some (option_map tree o) || b) (any_alike set)
 
 pub returns : goal.returns
 returns c =
-    any_from_yields_List is_some _ _ c.any.result c.any.ensures.ran (YieldsList-from_slice c.self.inside.at cc) (λ x b q k. search (rules, tests))
+    any_from_yields_List is_some _ _ c.any.result c.any.ensures.ran (YieldsList-from_slice c.self.inside.at cc)
+    (λ x b q k. search (rules, tests))
     ∙ any_alike c.self.inside.at ∙ ap (list_any is_some) c.self.view_is

@@ -14,10 +14,14 @@ returns c =
     let a = c.args.self.now in
     let t = transfer_of_pair c.args.transfer.now in
     λ told h.
-    let next = c.both-is_next.ensures ∙ (λ i. nat_lt c.args.cycle (c.cycles.ensures i) && c.args.cycle == h.knows.done i) in
+    let next = c.both-is_next.ensures
+    ∙ (λ i. nat_lt c.args.cycle (c.cycles.ensures i) && c.args.cycle == h.knows.done i) in
     let same = c.are_same.ensures ∙ ap (bytes_eq c.args.active) h.knows.active in
     let runs = c.transfer_fits.ensures told h in
-    c.both-2.ensures ∙ (λ i. next i && c.both.ensures i) ∙ ap (λ (x : Bool). (nat_lt c.args.cycle M.cycles && c.args.cycle == next_cycle_number told) && x)
+    c.both-2.ensures ∙ (λ i. next i && c.both.ensures i)
+    ∙ ap (λ (x : Bool). (nat_lt c.args.cycle M.cycles && c.args.cycle == next_cycle_number told) && x)
     ((λ i. same i && runs i)
-    ∙ and_given (bytes_eq c.args.active (active_told M told)) (transfer_fits M told a.active t) (transfer_fits M told c.args.active t)
-    (λ k. ap (λ (s : ChannelSet). transfer_fits M told s t) (h.knows.active ∙ sym ((bytes_eq-Decides c.args.active (active_told M told)).0 k))))
+    ∙ and_given (bytes_eq c.args.active (active_told M told)) (transfer_fits M told a.active t)
+    (transfer_fits M told c.args.active t)
+    (λ k. ap (λ (s : ChannelSet). transfer_fits M told s t)
+    (h.knows.active ∙ sym ((bytes_eq-Decides c.args.active (active_told M told)).0 k))))

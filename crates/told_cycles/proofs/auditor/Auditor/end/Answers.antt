@@ -14,7 +14,10 @@ returns g c =
     let first = first_there M r old.part.first h.part.first some in
     let shown = first_is M r old.part.first first.0 h.part.first first.1 in
     stands_after M (closed_record r c.args.removed c.args.joined left ∷ told) _
-    (ends M told r c.args.removed c.args.joined left old h some c.next_place-self.result c.union-self.result c.counts_of_line-self.result c.words_after-self.result
+    (ends M told r c.args.removed c.args.joined left old h some c.next_place-self.result c.union-self.result
+    c.counts_of_line-self.result c.words_after-self.result
     (c.union-self.ensures ∙ ap (λ (s : ChannelSet). union s c.args.joined) c.difference.ensures)
-    (λ q low. c.counts_of_line-self.ensures first.0 first.1 q low ∙ ap (λ n. place_or (take n first.0.counts) q 0) c.channel_count.ensures.value ∙ ap (λ (l : LineValue). place_or l.counts q 0) (sym shown.1))
+    (λ q low. c.counts_of_line-self.ensures first.0 first.1 q low
+    ∙ ap (λ n. place_or (take n first.0.counts) q 0) c.channel_count.ensures.value
+    ∙ ap (λ (l : LineValue). place_or l.counts q 0) (sym shown.1))
     c.words_after-self.ensures) c.next_place-self.ensures.none c.next_place-self.ensures.some

@@ -24,14 +24,19 @@ returns-clause-fits g c =
     let judged = c.within.ensures ∙ (λ i. list_all (has (active i)) (c.judged_of-judged.ensures i)) in
     let base = counts_told M told in
     let same = base_at M told a.counts a.joined h.knows.counts h.knows.joined in
-    let counts = c.counts_by-counts.ensures base (λ q low there. same q low (ap (λ (s : ChannelSet). has s q) (sym h.knows.active) ∙ there))
+    let counts = c.counts_by-counts.ensures base
+    (λ q low there. same q low (ap (λ (s : ChannelSet). has s q) (sym h.knows.active) ∙ there))
     ∙ (λ i. counts_of M.rules.law M.rules.keep M.rules.decrement (active i) (c.judged_of-judged.ensures i) base) in
-    let tallied = c.has_counts.ensures ∙ (λ i. bytes_eq (take (c.channel_count.ensures.value i) line.counts) (take (c.channel_count.ensures.value i) (counts i))) in
+    let tallied = c.has_counts.ensures
+    ∙ (λ i. bytes_eq (take (c.channel_count.ensures.value i) line.counts)
+    (take (c.channel_count.ensures.value i) (counts i))) in
     let context = c.run_line.ensures.value ∙ ap (λ k. whole (cycle_writes M k) a.context k l.inputs) h.knows.done
     ∙ ap (λ (x : ContextValue). whole (cycle_writes M n) x n l.inputs) (h.knows.context ∙ amid_none M told r l e) in
-    let votes = c.votes_fit.ensures ∙ ap (λ (x : ContextValue). same_votes l.votes (map (λ w. Some w) (output_words M x))) context in
+    let votes = c.votes_fit.ensures
+    ∙ ap (λ (x : ContextValue). same_votes l.votes (map (λ w. Some w) (output_words M x))) context in
     c.both.ensures
-    ∙ (λ i. (c.both-fits.ensures ∙ (λ j. c.has_width.ensures j && judged j)) i && (c.both-follows.ensures ∙ (λ j. tallied j && votes j)) i)
+    ∙ (λ i. (c.both-fits.ensures ∙ (λ j. c.has_width.ensures j && judged j)) i
+    && (c.both-follows.ensures ∙ (λ j. tallied j && votes j)) i)
 
 pub returns-clause-context : goal.returns-clause-context
 returns-clause-context g c =
@@ -41,5 +46,6 @@ returns-clause-context g c =
     let l = shown_in M c.args.line.now in
     let n = next_cycle_number told in
     let context = c.run_line.ensures.value ∙ ap (λ k. whole (cycle_writes M k) a.context k l.inputs) h.knows.done
-    ∙ ap (λ (x : ContextValue). whole (cycle_writes M n) x n l.inputs) (h.knows.context ∙ amid_none M told r l e) ∙ sym (amid_first M told r l e) in
+    ∙ ap (λ (x : ContextValue). whole (cycle_writes M n) x n l.inputs) (h.knows.context ∙ amid_none M told r l e)
+    ∙ sym (amid_first M told r l e) in
     ap (λ (x : ContextValue). record a { context = x }) context

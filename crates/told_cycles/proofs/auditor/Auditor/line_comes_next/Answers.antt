@@ -10,6 +10,9 @@ pub returns : goal.returns
 returns c =
     λ M told r h.
     let chans = map (λ (l : LineValue). l.channel) r.lines in
-    let next = c.comes_next.ensures chans (λ q. h.part.lined q ∙ sym (any-map (λ p. p == q) (λ (l : LineValue). l.channel) r.lines)) in
-    let none = ap (λ n. n == 0) c.count.ensures.value ∙ none_traced r c.args.self.now.part.traced h.part.traced h.part.traced_low in
-    c.both.ensures ∙ (λ i. none i && next i) ∙ ap (λ a. is_empty r.traces && comes_next a chans c.args.chan) (h.knows.active ∙ sym h.part.active)
+    let next = c.comes_next.ensures chans
+    (λ q. h.part.lined q ∙ sym (any-map (λ p. p == q) (λ (l : LineValue). l.channel) r.lines)) in
+    let none = ap (λ n. n == 0) c.count.ensures.value
+    ∙ none_traced r c.args.self.now.part.traced h.part.traced h.part.traced_low in
+    c.both.ensures ∙ (λ i. none i && next i)
+    ∙ ap (λ a. is_empty r.traces && comes_next a chans c.args.chan) (h.knows.active ∙ sym h.part.active)

@@ -13,7 +13,8 @@ pub returns-in_default : goal.returns-in_default
 returns-in_default c =
     let M = c.args.mission.now in
     λ told r h.
-    sym (ap (λ (ls : List LineValue). (not (is_empty ls) && all_traced r) && removed_fits M r c.args.removed) (none_before M r c.args.self.now.part.first h.part.first c.in_default.is))
+    sym (ap (λ (ls : List LineValue). (not (is_empty ls) && all_traced r) && removed_fits M r c.args.removed)
+    (none_before M r c.args.self.now.part.first h.part.first c.in_default.is))
 
 pub returns : goal.returns
 returns c =
@@ -23,10 +24,16 @@ returns c =
     λ told r h.
     let first = first_is M r a.part.first c.in-Some.first h.part.first c.in-Some.is in
     let active = h.knows.active ∙ sym h.part.active in
-    let stay = c.all_stay_rightly.ensures r (sym active) (λ q low. c.counts_told-counts.ensures q low ∙ ap (λ n. place_or (take n c.in-Some.first.counts) q 0) c.channel_count.ensures.value ∙ ap (λ (l : LineValue). place_or l.counts q 0) (sym first.1)) in
+    let stay = c.all_stay_rightly.ensures r (sym active)
+    (λ q low. c.counts_told-counts.ensures q low
+    ∙ ap (λ n. place_or (take n c.in-Some.first.counts) q 0) c.channel_count.ensures.value
+    ∙ ap (λ (l : LineValue). place_or l.counts q 0) (sym first.1)) in
     let left = c.count-left.ensures.value ∙ ap length c.difference.ensures in
     let lined = c.within.ensures ∙ traced_all r a.part.lined a.part.traced h.part.lined h.part.traced in
     c.both-2.ensures
-    ∙ (λ i. lined i && (c.both.ensures ∙ (λ j. c.within-2.ensures j && (c.both-stay.ensures ∙ (λ k. nat_le 3 (left k) && stay k)) j)) i)
-    ∙ ap (λ (s : ChannelSet). all_traced r && (list_all (has s) removed && (nat_le 3 (length (without s removed)) && list_all (stays_rightly M r removed) s))) active
+    ∙ (λ i. lined i && (c.both.ensures
+    ∙ (λ j. c.within-2.ensures j && (c.both-stay.ensures ∙ (λ k. nat_le 3 (left k) && stay k)) j)) i)
+    ∙ ap (λ (s : ChannelSet). all_traced r
+    && (list_all (has s) removed
+    && (nat_le 3 (length (without s removed)) && list_all (stays_rightly M r removed) s))) active
     ∙ ap (λ b. (not b && all_traced r) && removed_fits M r removed) (sym first.0)

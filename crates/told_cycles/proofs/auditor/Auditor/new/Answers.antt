@@ -17,6 +17,10 @@ returns c = (
       counts = zero_at;
       words = c.first_words.ensures;
     };
-    sweeps = record { cycles = []; stand = subst (λ b. SweepsFor b 0 [] c.none.result) c.block_count.ensures.value (c.none.ensures 0); same = λ t is. no_some t is };
+    sweeps = record {
+      cycles = [];
+      stand = subst (λ b. SweepsFor b 0 [] c.none.result) c.block_count.ensures.value (c.none.ensures 0);
+      same = λ t is. no_some t is;
+    };
   },
 )

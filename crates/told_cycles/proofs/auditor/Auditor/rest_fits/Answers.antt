@@ -13,7 +13,11 @@ returns c =
     let blocks = remaining_blocks M.rules.blocks closed.cycles in
     let rest = c.remaining-rest.ensures M.rules.blocks _ closed.cycles closed.stand in
     let number = c.is_same_number.ensures
-    ∙ ap (same_number c.args.remaining) (c.remaining_of.ensures ∙ ap (option_map (λ (t : TransferValue). c.remaining-rest.result)) e ∙ number_same M told r closed c.remaining-rest.result rest) in
+    ∙ ap (same_number c.args.remaining)
+    (c.remaining_of.ensures ∙ ap (option_map (λ (t : TransferValue). c.remaining-rest.result)) e
+    ∙ number_same M told r closed c.remaining-rest.result rest) in
     let joined = c.are_same.ensures
-    ∙ ap (bytes_eq c.args.joined) (c.joins.ensures blocks (sym rest) ∙ ap (λ (o : Option TransferValue). joined_of M.rules.last o blocks) e ∙ joined_same M told r closed) in
+    ∙ ap (bytes_eq c.args.joined)
+    (c.joins.ensures blocks (sym rest) ∙ ap (λ (o : Option TransferValue). joined_of M.rules.last o blocks) e
+    ∙ joined_same M told r closed) in
     c.both.ensures ∙ (λ i. number i && joined i)

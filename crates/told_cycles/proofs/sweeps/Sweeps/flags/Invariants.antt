@@ -5,4 +5,5 @@ use Rattle.told_cycles.proofs.sweeps.Sweeps.flags.Given as goal
 
 abbrev pub invariant-loop-block : goal.invariant-loop-block
 invariant-loop-block l =
-    (length l.flags ≡ 256) × ((b : ℕ) → b < l.block → is_flagged l.flags b ≡ remains_by (slice_index_or l.self.planned b None) (slice_index_or l.self.written b None))
+    (length l.flags ≡ 256) × ((b : ℕ) → b < l.block →
+    is_flagged l.flags b ≡ remains_by (slice_index_or l.self.planned b None) (slice_index_or l.self.written b None))

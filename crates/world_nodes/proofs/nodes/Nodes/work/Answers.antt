@@ -4,11 +4,12 @@ use Rattle.world_nodes.proofs.Crossing.{mission_shares, number_shares}
 use Rattle.world_nodes.proofs.nodes.Nodes.work.Lts as lts
 use Rattle.world_nodes.proofs.nodes.Nodes.work.Goals as goal
 
--- the closure may be shared, since each of the six that it captures may be: the threads, the heap, the mission, the cycle's
--- number, the gate and the natives
+-- the closure may be shared, since each of the six that it captures may be: the threads, the heap, the mission, the
+-- cycle's number, the gate and the natives
 pub each_beside-list-requires-sync-F : goal.each_beside-list-requires-sync-F
 each_beside-list-requires-sync-F g c κs within =
-    param_sync 1 (lts.arg-2-1 g.row.C g.row.G g.row.R g.C.laws g.G.laws g.R.laws g.C.Calls-dict g.G.Gate-dict g.R.Threads-dict g.R.Wait-dict κs)
+    param_sync 1 (lts.arg-2-1 g.row.C g.row.G g.row.R g.C.laws g.G.laws g.R.laws g.C.Calls-dict g.G.Gate-dict
+    g.R.Threads-dict g.R.Wait-dict κs)
     (record {
       shared = λ x b o κ. (
         (
