@@ -1,13 +1,11 @@
 -- Words for the contracts of a node's calls: each is an equation on the node's value. This project's own.
-use Rattle.std.specs.Prelude.{◌≡◌, ℕ, List, [], Option, Some, None}
+use Rattle.std.specs.Prelude.{◌≡◌, ℕ, List, [], Some}
 use Rattle.guards_model.specs.Channels.{Channel}
 use Rattle.guards_model.specs.Missions.{MissionValue, cycle_writes, written_blocks}
-use Rattle.guards_model.specs.Frames.{ItemValue, ExchangeValue}
-use Rattle.guards_model.specs.Voting.{Ballots}
-use Rattle.guards_model.specs.Controls.{ControlValue, ClosedValue, closed_by}
-use Rattle.guards_model.specs.Texts.{LineValue}
+use Rattle.guards_model.specs.Frames.{ItemValue}
+use Rattle.guards_model.specs.Controls.{ClosedValue, closed_by}
 use Rattle.guards_nodes.specs.NodeStates.{NodeValue, StateValue, running, returning, RunningValue, JoinerValue, DecidedValue}
-use Rattle.guards_nodes.specs.NodeSteps.{Received, StandsFor, HasWorked, first_running_value, after_exchange, after_decision, plan_in, after_close, after_votes, line_by, risen}
+use Rattle.guards_nodes.specs.NodeSteps.{Received, StandsFor, HasWorked, first_running_value, after_exchange, after_decision, plan_in, after_close}
 
 -- the node of a channel before the first cycle
 abbrev pub first_node : MissionValue → Channel → NodeValue
@@ -15,9 +13,6 @@ first_node M q = record { channel = q; rules = M.rules; state = running (first_r
 
 abbrev pub IsRunning : NodeValue → Type 0
 IsRunning node = (r : RunningValue) × (node.state ≡ running r)
-
-abbrev pub IsReturning : NodeValue → Type 0
-IsReturning node = (j : JoinerValue) × (node.state ≡ returning j)
 
 -- ---- a node in another state
 
@@ -41,11 +36,6 @@ rejoined f node = in_state (on_returning f node.state) node
 
 -- ---- calls whose clause is about what was received
 
--- the items of a frame, or of none
-abbrev pub items_or_none : Option ExchangeValue → List ItemValue
-items_or_none None = []
-items_or_none (Some exchange) = exchange.items
-
 -- An exchange was received: where the node stood for some list with nothing of this round and sender yet, it is now
 -- what stands for this list with these items.
 abbrev pub HasReceived : ℕ → Channel → List ItemValue → NodeValue → NodeValue → Type 0
@@ -68,15 +58,6 @@ pub record DoesWork (M : MissionValue) (c : ℕ) (old new : NodeValue) : Type 0 
   pub is : new ≡ in_state (running after) old
   pub worked : HasWorked M.rules (cycle_writes M c) c before after
 
--- it took a vote, and answers its line
-pub record DoesVote (M : MissionValue) (ballots : Ballots) (old new : NodeValue) (line : LineValue) : Type 0 where
-  pub before : RunningValue
-  pub decided : DecidedValue
-  pub was : old.state ≡ running before
-  pub had : before.progress.decided ≡ Some decided
-  pub is : new ≡ changed (after_votes old.channel M.outputs ballots) old
-  pub answer : line ≡ line_by M.rules old.channel M.outputs before decided ballots
-
 -- it closed the cycle, and answers who joined and what remains
 pub record DoesClose (M : MissionValue) (c : ℕ) (old new : NodeValue) (closed : ClosedValue) : Type 0 where
   pub before : RunningValue
@@ -85,11 +66,3 @@ pub record DoesClose (M : MissionValue) (c : ℕ) (old new : NodeValue) (closed 
   pub had : before.progress.decided ≡ Some decided
   pub is : new ≡ changed (after_close M.rules (written_blocks M c) decided) old
   pub answer : closed ≡ closed_by M.rules.last (plan_in M.rules before.held) (written_blocks M c) before.held.control
-
--- a joining channel that took a final content runs with it
-pub record DoesRise (old new : NodeValue) : Type 0 where
-  pub joiner : JoinerValue
-  pub control : ControlValue
-  pub was : old.state ≡ returning joiner
-  pub had : joiner.taken ≡ Some control
-  pub is : new ≡ in_state (running (risen joiner control)) old

@@ -3,7 +3,7 @@ use Rattle.std.specs.Prelude.{◌≡◌, ℕ, zero, suc, ◌*◌, Bool, ◌&&◌
 use Rattle.std.specs.List.{AllZip, list_any}
 use Rattle.guards_model.specs.declared.Slot.TheVariants.{Switch, Output}
 use Rattle.guards_model.specs.Slots.{same_slot}
-use Rattle.guards_model.specs.Channels.{Channel, ChannelSet, has, place_or, by_channel, channels_where}
+use Rattle.guards_model.specs.Channels.{Channel, ChannelSet, has, place_or, by_channel}
 use Rattle.guards_model.specs.Voting.{Ballots}
 use Rattle.guards_model.specs.Missions.{MissionValue, ActuatorValue, output_words}
 use Rattle.guards_model.specs.Frames.{spelling}
@@ -67,10 +67,6 @@ is_output_charge c q e = ((e.cycle == c && same_slot e.slot Output) && e.from ==
 abbrev pub output_disturbed : ℕ → Cycle → Log → ChannelSet
 output_disturbed c e L =
     filter (λ q. has (disturbed_channels c e Switch) q || list_any (is_output_charge c q) L) e.active
-
--- those whose output entry was not delivered as sent
-abbrev pub output_charged : ℕ → Log → ChannelSet
-output_charged c L = channels_where (λ q. list_any (is_output_charge c q) L)
 
 -- the run stops where these are a third of the active channels or more
 abbrev pub output_halts : ℕ → Cycle → Log → Bool
