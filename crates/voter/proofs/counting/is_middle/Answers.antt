@@ -21,15 +21,15 @@ few_else less few many s m e f h =
     not_at_most less (s / 2) (nat_le less (s / 2)) refl h
     ∙ sym (ap (λ b. b && nat_lt m many) (not_at_most few m (nat_le few m) refl high))
 
-pub returns-then-less-middle : goal.returns-then-less-middle
+pub returns-then-count_less-middle : goal.returns-then-count_less-middle
 unfolding stands_in_middle
-returns-then-less-middle c =
+returns-then-count_less-middle c =
     few_then c.count_less.result c.count_at_most.result _ _ c.saturating_sub-middle.result _
     (ap (λ s. s / 2) c.saturating_sub-middle.ensures) c.count_less.ensures c.count_at_most.ensures
     c.if-less-middle.true
 
-pub returns-else-less-middle : goal.returns-else-less-middle
+pub returns-else-count_less-middle : goal.returns-else-count_less-middle
 unfolding stands_in_middle
-returns-else-less-middle c =
+returns-else-count_less-middle c =
     few_else c.count_less.result _ _ c.saturating_sub-middle.result _ (ap (λ s. s / 2) c.saturating_sub-middle.ensures)
     c.count_less.ensures c.if-less-middle.false
