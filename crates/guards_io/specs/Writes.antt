@@ -1,5 +1,5 @@
 -- What writing a text to a sink does, whatever pieces it takes.
-use Rattle.std.specs.Prelude.{◌≡◌, ◌<◌, ◌++◌, ℕ, List, length, Option, Result, Ok, Err}
+use Rattle.std.specs.Prelude.{◌≡◌, ◌<◌, ◌++◌, ◌⊎◌, ℕ, List, length, Option, Result, Ok, Err}
 use Rattle.std.specs.Io.KnownBytes.{Appends}
 use Rattle.guards_io.specs.Causes.{Rose}
 use Rattle.guards_io.specs.Views.{SinkView}
@@ -26,3 +26,9 @@ abbrev pub Puts : SinkView → SinkView → List ℕ → Result (Unit {0}) Write
 Puts old new part (Ok _) = Appends old.written new.written part × (new.faults ≡ old.faults)
 Puts old new part (Err Failed) = AppendsPart old.written new.written part × Rose old.faults new.faults
 Puts old new part (Err Memory) = new ≡ old
+
+-- A line was written, or, only where the sink's faults rose, a front of it.
+abbrev pub WritesLine : SinkView → SinkView → List ℕ → Type 0
+WritesLine old new line =
+    (Appends old.written new.written line × (new.faults ≡ old.faults))
+    ⊎ (AppendsPart old.written new.written line × Rose old.faults new.faults)

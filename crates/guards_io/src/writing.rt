@@ -2,7 +2,7 @@
 ghost use Rattle.std.specs.Prelude.{OnOk, OnErr};
 ghost use Rattle.std.specs.Io.KnownBytes.{Appends};
 ghost use Rattle.guards_io.specs.Causes.{HasCause};
-ghost use Rattle.guards_io.specs.Writes.{AppendsPart, Puts};
+ghost use Rattle.guards_io.specs.Writes.{AppendsPart, Puts, WritesLine};
 
 use crate::{Failed, Sink};
 
@@ -36,4 +36,11 @@ pub fn put<K: Sink>(out: &mut K, part: &str) -> Result<(), WriteStop>
         Ok(()) => Ok(()),
         Err(_) => Err(WriteStop::Failed),
     }
+}
+
+/// Writes a line that ends a call, as far as the sink takes it.
+pub fn put_line<K: Sink>(out: &mut K, line: &str)
+    ensures { WritesLine (K.seen out.old) (K.seen out.new) line.now }
+{
+    let _ = write_all(out, line.as_bytes());
 }

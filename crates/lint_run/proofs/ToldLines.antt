@@ -10,11 +10,11 @@ use Rattle.lint_run.specs.declared.status.LintStatus.{LintStatus}
 use Rattle.lint_run.specs.declared.status.LintStatus.TheVariants.{Clean, Warned, Stopped}
 use Rattle.lint_run.specs.Outcomes.{IsStop, TellsLines, RefusesWith, RefusesWords, LintsBytes, LintOutcome, LintCompletes}
 use Rattle.mission_lint.specs.Lines.{lint_of}
-use Rattle.mission_run.specs.declared.limit.TheConstants.{MAX_MISSION_BYTES}
-use Rattle.mission_run.specs.declared.status.Status.{Status}
-use Rattle.mission_run.specs.declared.status.Status.TheVariants.{Done, NoMemory}
-use Rattle.mission_run.specs.Reading.{RefusesBytes}
-use Rattle.mission_run.proofs.MissionTold.{refused_for_memory, told_to_end}
+use Rattle.mission_check.specs.declared.limit.TheConstants.{MAX_MISSION_BYTES}
+use Rattle.mission_check.specs.declared.status.Status.{Status}
+use Rattle.mission_check.specs.declared.status.Status.TheVariants.{Done, NoMemory}
+use Rattle.mission_check.specs.Reading.{RefusesBytes}
+use Rattle.mission_check.proofs.MissionTold.{refused_for_memory, told_to_end}
 use Rattle.mission_text.specs.Mission.{mission_of}
 
 -- ---- words

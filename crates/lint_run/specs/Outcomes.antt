@@ -6,17 +6,17 @@ use Rattle.guards_io.specs.Views.{SourceView}
 use Rattle.guards_model.specs.Missions.{MissionValue}
 use Rattle.guards_model.specs.Texts.{TextValue}
 use Rattle.guards_io.specs.Views.{SinkView}
+use Rattle.guards_io.specs.Writes.{WritesLine}
 use Rattle.lint_lines.specs.LineTexts.{lint_text, warns}
 use Rattle.lint_run.specs.declared.status.LintStatus.{LintStatus}
 use Rattle.lint_run.specs.declared.status.LintStatus.TheVariants.{Clean, Warned, Stopped}
 use Rattle.mission_lint.specs.Lines.{lint_of}
-use Rattle.mission_run.specs.declared.limit.TheConstants.{MAX_MISSION_BYTES}
-use Rattle.mission_run.specs.declared.status.Status.{Status}
-use Rattle.mission_run.specs.declared.status.Status.TheVariants.{Done, Usage, NoMemory}
-use Rattle.mission_run.specs.Reading.{RefusesBytes, TakesAll, Tells}
-use Rattle.mission_run.specs.Statuses.{status_code}
+use Rattle.mission_check.specs.declared.limit.TheConstants.{MAX_MISSION_BYTES}
+use Rattle.mission_check.specs.declared.status.Status.{Status}
+use Rattle.mission_check.specs.declared.status.Status.TheVariants.{Done, Usage, NoMemory}
+use Rattle.mission_check.specs.Reading.{RefusesBytes, TakesAll, Tells}
+use Rattle.mission_check.specs.Statuses.{status_code}
 use Rattle.mission_text.specs.Mission.{mission_of}
-use Rattle.world_run.specs.Running.{WritesLine}
 
 -- the exit status: 0, or 1 where a line warns, and else the status of `guards`
 abbrev pub lint_code : LintStatus → ℕ

@@ -2,7 +2,7 @@
 ghost use Rattle.std.specs.Prelude.{◌≡◌};
 ghost use Rattle.lint_run.specs.Outcomes.{lint_code};
 
-use mission_run::Status;
+use mission_check::Status;
 
 /// What came of a call.
 #[derive(Debug, Drop)]

@@ -6,13 +6,12 @@ ghost use Rattle.lint_run.specs.Outcomes.{LintCompletes, LintOutcome, LintsBytes
 
 use crate::status::LintStatus;
 use guards_base::Words;
-use guards_io::{Sink, Source, WriteStop, put};
+use guards_io::{Sink, Source, WriteStop, put, put_line};
 use lint_lines::{lines_text, warn};
+use mission_check::{Status, read_mission};
 use mission_lint::find_lines;
-use mission_run::{Status, read_mission};
 use mission_type::Mission;
 use std::alloc::Global;
-use world_run::put_line;
 
 /// The line of wrong words.
 #[tactic(auto, unfolding(crate::specs::Outcomes::lint_usage))]

@@ -8,13 +8,14 @@ use Rattle.document_checks.specs.declared.why.Why.{Why}
 use Rattle.guards_audit.specs.Consistency.{IsConsistent}
 use Rattle.run_audit.specs.Marks.{mission_bytes}
 use Rattle.mission_text.specs.Mission.{mission_of}
-use Rattle.mission_run.specs.declared.limit.TheConstants.{MAX_AUDIT_BYTES, MAX_MISSION_BYTES}
-use Rattle.mission_run.specs.declared.status.Status.{Status}
-use Rattle.mission_run.specs.declared.status.Status.TheVariants.{Done, Usage, BadMission, TooLong, ReadFault, WriteFault, TooManyDisturbed, NoMemory, NotARun}
+use Rattle.mission_check.specs.declared.limit.TheConstants.{MAX_MISSION_BYTES}
+use Rattle.mission_run.specs.declared.limit.TheConstants.{MAX_AUDIT_BYTES}
+use Rattle.mission_check.specs.declared.status.Status.{Status}
+use Rattle.mission_check.specs.declared.status.Status.TheVariants.{Done, Usage, BadMission, TooLong, ReadFault, WriteFault, TooManyDisturbed, NoMemory, NotARun}
 use Rattle.mission_run.specs.Lines.{yes_line}
-use Rattle.mission_run.specs.Reading.{TakesUpTo, Tells}
+use Rattle.mission_check.specs.Reading.{TakesUpTo, Tells}
 use Rattle.mission_run.specs.Auditing.{AuditsBytes, CompletesAudit, Judges}
-use Rattle.mission_run.proofs.MissionTold.{taken_all, taken_part}
+use Rattle.mission_check.proofs.MissionTold.{taken_all, taken_part}
 
 -- the line of a trace that is consistent is told as any text
 pub told_yes : (M : MissionValue) (trace : List ℕ) (old new : SinkView) (status : Status) → IsConsistent M trace →

@@ -4,8 +4,8 @@ use Rattle.guards_model.specs.BusRules.{RuleValue}
 use Rattle.guards_model.specs.Network.{EntryValue}
 use Rattle.command_line.specs.Commands.{command_of}
 use Rattle.command_line.specs.declared.command.Command.{Command}
-use Rattle.mission_run.specs.declared.status.Status.{Status}
-use Rattle.mission_run.specs.declared.status.Status.TheVariants.{Done, Usage, BadMission, TooLong, ReadFault, WriteFault, TooManyDisturbed, NoMemory, NotARun}
+use Rattle.mission_check.specs.declared.status.Status.{Status}
+use Rattle.mission_check.specs.declared.status.Status.TheVariants.{Done, Usage, BadMission, TooLong, ReadFault, WriteFault, TooManyDisturbed, NoMemory, NotARun}
 use Rattle.mission_run.specs.TopCall.{Outside, Serves, Outcome}
 
 module _ (may : List RuleValue → EntryValue → Type 0) (words : List (List ℕ)) (old new : Outside)

@@ -21,12 +21,12 @@ use Rattle.command_line.specs.declared.command.Command.{Command}
 use Rattle.command_line.specs.declared.command.Command.TheVariants as command
 use Rattle.run_laws.specs.Runs.{HasCarried}
 use Rattle.world_run.specs.Running.{stop_value}
-use Rattle.mission_run.specs.declared.limit.TheConstants.{MAX_MISSION_BYTES}
-use Rattle.mission_run.specs.declared.status.Status.{Status}
-use Rattle.mission_run.specs.declared.status.Status.TheVariants.{Done, Usage, BadMission, TooLong, ReadFault, WriteFault, TooManyDisturbed, NoMemory, NotARun}
-use Rattle.mission_run.specs.Reading.{OfMission, Tells}
+use Rattle.mission_check.specs.declared.limit.TheConstants.{MAX_MISSION_BYTES}
+use Rattle.mission_check.specs.declared.status.Status.{Status}
+use Rattle.mission_check.specs.declared.status.Status.TheVariants.{Done, Usage, BadMission, TooLong, ReadFault, WriteFault, TooManyDisturbed, NoMemory, NotARun}
+use Rattle.mission_check.specs.Reading.{OfMission, Tells}
 use Rattle.mission_run.specs.TopCall.{Outside, RunsMission, RunsMissionLast, RunsTold, RunsDemo, Serves, Outcome, CompletesCommand, Completes}
-use Rattle.mission_run.proofs.MissionTold.{refused_for_memory, same_mission, told_to_end}
+use Rattle.mission_check.proofs.MissionTold.{refused_for_memory, same_mission, told_to_end}
 use Rattle.mission_run.proofs.Audited.{audit_completes}
 use Rattle.mission_run.proofs.ByCommand.{by_command}
 

@@ -38,10 +38,10 @@ use Rattle.run_laws.proofs.RunContinues.{due_by, each_due, from_through}
 use Rattle.world_run.specs.Running.{stop_value}
 use Rattle.command_line.specs.declared.command.Command.{Command}
 use Rattle.command_line.specs.declared.command.Command.TheVariants as command
-use Rattle.mission_run.specs.declared.status.Status.{Status}
-use Rattle.mission_run.specs.declared.status.Status.TheVariants.{Done, Usage, BadMission, TooLong, ReadFault, WriteFault, TooManyDisturbed, NoMemory, NotARun}
+use Rattle.mission_check.specs.declared.status.Status.{Status}
+use Rattle.mission_check.specs.declared.status.Status.TheVariants.{Done, Usage, BadMission, TooLong, ReadFault, WriteFault, TooManyDisturbed, NoMemory, NotARun}
 use Rattle.mission_run.specs.TopCall.{Outside, RunsMission, RunsMissionLast, RunsTold, Serves, Outcome, DoesScript, HasNoFaults, TellsIdeal, RunsIdeal, EndsWell}
-use Rattle.mission_run.proofs.MissionTold.{refused_for_memory, same_mission}
+use Rattle.mission_check.proofs.MissionTold.{refused_for_memory, same_mission}
 use Rattle.mission_run.proofs.ByCommand.{by_command}
 use Rattle.mission_run.proofs.Repeating.{scripted, stopped_acting, refused_repeats}
 

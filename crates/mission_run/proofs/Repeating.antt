@@ -28,17 +28,18 @@ use Rattle.run_laws.proofs.ActedLogs.{acted_by}
 use Rattle.run_laws.proofs.ActedEnds.{reports_alike as acted_reports_alike, run_parts_alike, stops_alike as acted_stops_alike}
 use Rattle.run_laws.specs.Summaries.{summary}
 use Rattle.run_laws.proofs.RunContinues.{due_by, each_due}
-use Rattle.world_run.specs.Running.{stop_value, WritesLine, EndsWith}
+use Rattle.world_run.specs.Running.{stop_value, EndsWith}
 use Rattle.guards_io.specs.Views.{SinkView, SourceView}
+use Rattle.guards_io.specs.Writes.{WritesLine}
 use Rattle.demo_mission.specs.Demo.{demo_mission}
 use Rattle.demo_mission.proofs.IsDemo.{demo_rules_lose}
 use Rattle.command_line.specs.declared.command.Command.{Command}
 use Rattle.command_line.specs.declared.command.Command.TheVariants as command
-use Rattle.mission_run.specs.declared.status.Status.{Status}
-use Rattle.mission_run.specs.declared.status.Status.TheVariants.{Done, Usage, BadMission, TooLong, ReadFault, WriteFault, TooManyDisturbed, NoMemory, NotARun}
-use Rattle.mission_run.specs.Reading.{RefusesBytes}
+use Rattle.mission_check.specs.declared.status.Status.{Status}
+use Rattle.mission_check.specs.declared.status.Status.TheVariants.{Done, Usage, BadMission, TooLong, ReadFault, WriteFault, TooManyDisturbed, NoMemory, NotARun}
+use Rattle.mission_check.specs.Reading.{RefusesBytes}
 use Rattle.mission_run.specs.TopCall.{Outside, RunsMission, RunsMissionLast, RunsTold, RunsDemo, Serves, Outcome, DoesScript, status_of_end, text_or_stop, demo_text, told_report, TellsAsAny, RepeatsCommand, Repeats}
-use Rattle.mission_run.proofs.MissionTold.{refused_for_memory, same_mission}
+use Rattle.mission_check.proofs.MissionTold.{refused_for_memory, same_mission}
 use Rattle.mission_run.proofs.ByCommand.{by_command}
 use Rattle.mission_run.proofs.DemoTexts.{demo_texts_alike}
 

@@ -7,13 +7,14 @@ use Rattle.guards_model.specs.Missions.{MissionValue}
 use Rattle.guards_audit.specs.Consistency.{IsConsistent, IsFirstBad}
 use Rattle.run_audit.specs.Marks.{mission_bytes, trace_bytes}
 use Rattle.mission_text.specs.Mission.{mission_of}
-use Rattle.guards_io.specs.Writes.{AppendsPart, AppendsFront}
-use Rattle.world_run.specs.Running.{WritesLine}
-use Rattle.mission_run.specs.declared.limit.TheConstants.{MAX_AUDIT_BYTES, MAX_MISSION_BYTES}
-use Rattle.mission_run.specs.declared.status.Status.{Status}
-use Rattle.mission_run.specs.declared.status.Status.TheVariants.{Done, BadMission, TooLong, ReadFault, WriteFault, NoMemory, NotARun}
-use Rattle.mission_run.specs.Lines.{yes_line, no_line, mission_line, long_line, read_line}
-use Rattle.mission_run.specs.Reading.{TakesBytes, TakesUpTo}
+use Rattle.guards_io.specs.Writes.{AppendsPart, AppendsFront, WritesLine}
+use Rattle.mission_check.specs.declared.limit.TheConstants.{MAX_MISSION_BYTES}
+use Rattle.mission_run.specs.declared.limit.TheConstants.{MAX_AUDIT_BYTES}
+use Rattle.mission_check.specs.declared.status.Status.{Status}
+use Rattle.mission_check.specs.declared.status.Status.TheVariants.{Done, BadMission, TooLong, ReadFault, WriteFault, NoMemory, NotARun}
+use Rattle.mission_check.specs.Lines.{mission_line, long_line, read_line}
+use Rattle.mission_run.specs.Lines.{yes_line, no_line}
+use Rattle.mission_check.specs.Reading.{TakesBytes, TakesUpTo}
 
 -- what the verdict on a trace leaves: its line, or where it says no, as far as the sink takes it
 abbrev pub Judges : MissionValue → List ℕ → SinkView → SinkView → Status → Type 0

@@ -1,27 +1,9 @@
--- The lines of refusals.
-use Rattle.std.specs.Prelude.{ℕ, List, [], ◌++◌, codes, Option, None, Some}
+-- The lines of wrong words and of a verdict on a trace.
+use Rattle.std.specs.Prelude.{ℕ, List, ◌++◌, codes}
 use Rattle.std.specs.Fmt.{decimal}
-use Rattle.document_checks.specs.declared.why.Cause.{Cause}
-use Rattle.document_checks.specs.declared.why.Cause.TheVariants as cause
-use Rattle.document_checks.specs.declared.why.Why.{Why}
-
-abbrev pub cause_name : Cause → List ℕ
-cause_name cause.NotToml = codes "not-toml"
-cause_name cause.Missing = codes "missing"
-cause_name cause.WrongType = codes "wrong-type"
-cause_name cause.OutOfRange = codes "out-of-range"
-cause_name cause.Unknown = codes "unknown"
-cause_name cause.Duplicate = codes "duplicate"
-cause_name cause.BadExpr = codes "bad-expr"
 
 unfoldable pub usage_line : List ℕ
 usage_line = codes "usage: guards run [--trace] [--last K] | check | demo N | audit\n"
-
-unfoldable pub read_line : List ℕ
-read_line = codes "read fault\n"
-
-unfoldable pub long_line : List ℕ
-long_line = codes "mission: too long\n"
 
 -- the lines of the two verdicts on a trace
 unfoldable pub yes_line : List ℕ
@@ -29,12 +11,3 @@ yes_line = codes "audit yes\n"
 
 unfoldable pub no_line : ℕ → List ℕ
 no_line line = codes "audit: no at line " ++ (decimal line ++ codes "\n")
-
--- the place in an expression's text, where it breaks off there
-abbrev pub place_text : Option ℕ → List ℕ
-place_text None = []
-place_text (Some at) = codes " at " ++ decimal at
-
-unfoldable pub mission_line : Why → List ℕ
-mission_line why = codes "mission: "
-    ++ (cause_name why.cause ++ (codes " " ++ (why.path ++ (place_text why.at ++ codes "\n"))))

@@ -4,17 +4,17 @@ ghost use Rattle.mission_run.specs.Auditing.{AuditsBytes, CompletesAudit, Judges
 ghost use Rattle.run_audit.specs.Answers.{IsVerdict};
 ghost use Rattle.std.specs.Prelude.{List, ℕ};
 
-use crate::limit::{MAX_AUDIT_BYTES, MAX_MISSION_BYTES};
-use crate::lines::{long_line, no_line, read_line, yes_line};
-use crate::reading::{refuse_mission, told};
-use crate::status::Status;
-use guards_io::{ReadStop, Sink, Source, put, read_all};
+use crate::limit::MAX_AUDIT_BYTES;
+use crate::lines::{no_line, yes_line};
+use guards_io::{ReadStop, Sink, Source, put, put_line, read_all};
+use mission_check::{
+    MAX_MISSION_BYTES, Status, long_line, read_line, refuse_mission, status_of_write,
+};
 use mission_text::read;
 use mission_type::Mission;
 use native_calls::Calls;
 use run_audit::{Verdict, audit, split_run};
 use std::alloc::Global;
-use world_run::put_line;
 
 /// Writes the line of a trace that is not consistent.
 fn say_no<K: Sink>(alloc: Global, line: u32, out: &mut K) -> Status
@@ -36,7 +36,7 @@ fn say<K: Sink>(alloc: Global, verdict: Verdict, out: &mut K) -> Status
         Judges M trace (K.seen out.old) (K.seen out.new) result }
 {
     match verdict {
-        Verdict::Yes => told(put(out, yes_line())),
+        Verdict::Yes => status_of_write(put(out, yes_line())),
         Verdict::No { line } => say_no(alloc, line, out),
     }
 }

@@ -1,10 +1,9 @@
 -- What drawing a report does, by the status.
-use Rattle.std.specs.Prelude.{◌≡◌, ◌≤◌, ◌+◌, ◌⊎◌, ℕ, List, length, Option, None, Some, Result, Ok, Err}
+use Rattle.std.specs.Prelude.{◌≡◌, ◌≤◌, ◌+◌, ◌⊎◌, ℕ, List, length, Option, None, Some, Ok, Err}
 use Rattle.std.specs.Io.KnownBytes.{Appends, Consumes, IsAtEnd}
 use Rattle.guards_io.specs.Causes.{Rose}
 use Rattle.guards_io.specs.Views.{SourceView, SinkView}
-use Rattle.guards_io.specs.Writes.{AppendsPart, AppendsFront, Writes}
-use Rattle.guards_io.specs.declared.writing.WriteStop.{WriteStop}
+use Rattle.guards_io.specs.Writes.{AppendsPart, AppendsFront, WritesLine}
 use Rattle.run_audit.specs.declared.line.Sizes.{Sizes}
 use Rattle.report_story.specs.Places.{StoryPlace, story_of}
 use Rattle.picture_marks.specs.Marks.{marks_of}
@@ -24,10 +23,6 @@ picture_of p =
     svg_of p.channels (outputs_of_sizes p.sizes) p.cycles (length p.told) p.ending
     (marks_of p.channels (outputs_of_sizes p.sizes) p.told)
 
--- A line was written, as far as the sink took it.
-abbrev pub Says : SinkView → SinkView → List ℕ → Type 0
-Says old new line = (written : Result (Unit {0}) WriteStop) × Writes old new line written
-
 -- What writing the picture of a place does.
 abbrev pub DrawsPlace : StoryPlace → SinkView → SinkView → PictureStatus → Type 0
 DrawsPlace p old new Done = Appends old.written new.written (picture_of p) × (new.faults ≡ old.faults)
@@ -39,7 +34,7 @@ DrawsPlace p old new _ = ⊥
 
 -- What telling the first line that may not come where it stands does.
 abbrev pub RefusesReport : ℕ → SinkView → SinkView → PictureStatus → Type 0
-RefusesReport line old new (BadReport said) = (said ≡ line) × Says old new (bad_line line)
+RefusesReport line old new (BadReport said) = (said ≡ line) × WritesLine old new (bad_line line)
 RefusesReport line old new NoMemory = new ≡ old
 RefusesReport line old new _ = ⊥
 
@@ -61,11 +56,11 @@ TakesReport old new bytes = Consumes old.left new.left bytes × (new.faults ≡ 
 abbrev pub Pictures : SourceView → SourceView → SinkView → SinkView → PictureStatus → Type 0
 -- exactly where one byte too many was taken
 Pictures src src' out out' TooLong =
-    (input : List ℕ) × (length input ≡ LIMIT + 1) × TakesReport src src' input × Says out out' long_report_line
+    (input : List ℕ) × (length input ≡ LIMIT + 1) × TakesReport src src' input × WritesLine out out' long_report_line
 -- only where the source's faults rose, and before the end of what is read
 Pictures src src' out out' ReadFault =
     (input : List ℕ) × (length input ≤ LIMIT) × Consumes src.left src'.left input × Rose src.faults src'.faults
-    × Says out out' fault_line
+    × WritesLine out out' fault_line
 -- while the source is read, at the latest with the byte that is too many; or once it is read
 Pictures src src' out out' NoMemory =
     ((input : List ℕ) × (length input ≤ LIMIT + 1) × TakesReport src src' input × (out' ≡ out))
@@ -77,7 +72,7 @@ Pictures src src' out out' status =
 
 -- What the program does: with words it tells how it is used, and reads nothing; with none it draws.
 abbrev pub Answers : ℕ → SourceView → SourceView → SinkView → SinkView → PictureStatus → Type 0
-Answers words src src' out out' Usage = (1 ≤ words) × (src' ≡ src) × Says out out' picture_usage
+Answers words src src' out out' Usage = (1 ≤ words) × (src' ≡ src) × WritesLine out out' picture_usage
 Answers words src src' out out' status = (words ≡ 0) × Pictures src src' out out' status
 
 -- the exit status

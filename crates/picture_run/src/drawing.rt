@@ -2,24 +2,16 @@
 ghost use Rattle.std.specs.Prelude.{◌≡◌, ◌≤◌, ℕ, List, length};
 ghost use Rattle.report_story.specs.Answers.{IsPlace};
 ghost use Rattle.picture_run.specs.declared.status.TheConstants.{LIMIT};
-ghost use Rattle.picture_run.specs.Drawing.{Answers, Draws, DrawsPlace, Pictures, RefusesReport, Says, outputs_of_sizes};
+ghost use Rattle.picture_run.specs.Drawing.{Answers, Draws, DrawsPlace, Pictures, RefusesReport, outputs_of_sizes};
 
 use crate::lines::{bad_line, fault_line, long_line, usage_line};
 use crate::status::{LIMIT, PictureStatus};
 use guards_base::Words;
-use guards_io::{ReadStop, Sink, Source, WriteStop, put, read_all};
+use guards_io::{ReadStop, Sink, Source, WriteStop, put, put_line, read_all};
 use picture_svg::picture_text;
 use report_story::{BadReport, Reader, read_report};
 use run_audit::Sizes;
 use std::alloc::Global;
-
-/// Writes a line, as far as the sink takes it.
-fn say<K: Sink>(out: &mut K, line: &str)
-    ensures { Says (K.seen out.old)
-        (K.seen out.new) line.now }
-{
-    let _ = put(out, line);
-}
 
 fn outputs_of(sizes: Option<Sizes>) -> u8
     ensures { result ≡ outputs_of_sizes sizes }
@@ -62,7 +54,7 @@ fn refuse<K: Sink>(alloc: Global, line: u32, out: &mut K) -> PictureStatus
 {
     match bad_line(alloc, line) {
         Ok(text) => {
-            say(out, &text);
+            put_line(out, &text);
             PictureStatus::BadReport(line)
         }
         Err(_) => PictureStatus::NoMemory,
@@ -91,11 +83,11 @@ fn draw_source<S: Source, K: Sink>(alloc: Global, src: &mut S, out: &mut K) -> P
     match read_all(alloc, src, LIMIT) {
         Ok(bytes) => draw_input(alloc, bytes.as_slice(), out),
         Err(ReadStop::Failed) => {
-            say(out, fault_line());
+            put_line(out, fault_line());
             PictureStatus::ReadFault
         }
         Err(ReadStop::TooLong) => {
-            say(out, long_line());
+            put_line(out, long_line());
             PictureStatus::TooLong
         }
         Err(ReadStop::Memory) => PictureStatus::NoMemory,
@@ -115,7 +107,7 @@ pub fn picture<S: Source, K: Sink>(
         (K.seen out.new) result }
 {
     if words.len() > 0 {
-        say(out, usage_line());
+        put_line(out, usage_line());
         return PictureStatus::Usage;
     }
     draw_source(alloc, src, out)

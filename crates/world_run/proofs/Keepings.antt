@@ -14,7 +14,7 @@ use Rattle.guards_model.specs.Rounds.{Histories}
 use Rattle.guards_model.specs.Texts.{TextValue, Part, RecordValue, StopValue, part_text, cycle_part, stop_line}
 use Rattle.guards_world.specs.Worlds.{WorldValue, first_world}
 use Rattle.guards_runs.specs.IdealReport.{head, last}
-use Rattle.guards_io.specs.Writes.{AppendsPart, Puts}
+use Rattle.guards_io.specs.Writes.{AppendsPart, Puts, WritesLine}
 use Rattle.guards_io.specs.Views.{SinkView}
 use Rattle.guards_io.specs.declared.writing.WriteStop.{WriteStop}
 use Rattle.guards_io.specs.declared.writing.WriteStop.TheVariants as write
@@ -28,7 +28,7 @@ use Rattle.run_laws.proofs.Driving.{driven_mission, driven_cycles, driven_log, d
 use Rattle.run_laws.proofs.Ends.{stopped_cycle, short_is_whole, short_is_stopped}
 use Rattle.world_run.specs.declared.stop.RunStop.{RunStop}
 use Rattle.world_run.specs.declared.stop.RunStop.TheVariants.{Halted, WriteFault}
-use Rattle.world_run.specs.Running.{WritesLine, cycle_text, stop_text, stop_value, run_told_by}
+use Rattle.world_run.specs.Running.{cycle_text, stop_text, stop_value, run_told_by}
 use Rattle.world_run.specs.Keeping.{IsKept, Keeps, KeepsTo, KeptToHalt, KeptToStop, RunsLast, RunsToStopLast, TellsKept, kept_text}
 use Rattle.world_run.proofs.RunSteps.{head_is, last_is, part_is, stop_is}
 

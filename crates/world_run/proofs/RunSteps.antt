@@ -13,7 +13,7 @@ use Rattle.guards_model.specs.Rounds.{Histories}
 use Rattle.guards_model.specs.Texts.{TextValue, Part, RecordValue, StopValue, part_text, text_of_parts, cycle_part, head_line, last_line, done_line, out_line, stop_line}
 use Rattle.guards_world.specs.Worlds.{WorldValue, disturbed, no_memory, first_world}
 use Rattle.guards_runs.specs.IdealReport.{head, last}
-use Rattle.guards_io.specs.Writes.{AppendsPart, AppendsFront, Puts}
+use Rattle.guards_io.specs.Writes.{AppendsPart, AppendsFront, Puts, WritesLine}
 use Rattle.guards_io.specs.Views.{SinkView}
 use Rattle.guards_io.specs.declared.writing.WriteStop.{WriteStop}
 use Rattle.guards_io.specs.declared.writing.WriteStop.TheVariants as write
@@ -28,7 +28,7 @@ use Rattle.run_laws.proofs.Driving.{driven_mission, driven_cycles, driven_log, d
 use Rattle.run_laws.proofs.Ends.{stopped_cycle, within_whole, size_of_told, text_whole, text_stopped}
 use Rattle.world_run.specs.declared.stop.RunStop.{RunStop}
 use Rattle.world_run.specs.declared.stop.RunStop.TheVariants.{Halted, WriteFault}
-use Rattle.world_run.specs.Running.{WroteParts, EndsWith, Runs, RunsToStop, RunsToWriteFault, RunsOutOfMemory, IsAt, GoesTo, TellsHalt, WritesLine, bare_text, cycle_text, stop_text, stop_value, run_told_by, words_line}
+use Rattle.world_run.specs.Running.{WroteParts, EndsWith, Runs, RunsToStop, RunsToWriteFault, RunsOutOfMemory, IsAt, GoesTo, TellsHalt, bare_text, cycle_text, stop_text, stop_value, run_told_by, words_line}
 
 -- ---- what is written
 

@@ -16,7 +16,7 @@ use Rattle.guards_runs.specs.Cycles.{Cycle, cycles_before, cycle_at}
 use Rattle.guards_runs.specs.Report.{line_of, channels_running_in}
 use Rattle.guards_world.specs.Worlds.{WorldValue, disturbed, no_memory, first_world}
 use Rattle.guards_world.specs.WorldCycle.{PassesCycle}
-use Rattle.guards_io.specs.Writes.{AppendsPart, Puts}
+use Rattle.guards_io.specs.Writes.{AppendsPart, Puts, WritesLine}
 use Rattle.guards_io.specs.Views.{SinkView}
 use Rattle.guards_io.specs.declared.writing.WriteStop.{WriteStop}
 use Rattle.guards_io.specs.declared.writing.WriteStop.TheVariants as write
@@ -31,7 +31,7 @@ use Rattle.run_laws.proofs.RunPassed.{begins, passes_on, ran_cycles, ran_short}
 use Rattle.world_run.specs.declared.stop.RunStop.{RunStop}
 use Rattle.world_run.specs.declared.stop.RunStop.TheVariants.{Halted, WriteFault}
 use Rattle.world_run.specs.declared.tally.Tally.{Tally}
-use Rattle.world_run.specs.Running.{TellsHalt, WritesLine, stop_text, stop_value, run_told_by}
+use Rattle.world_run.specs.Running.{TellsHalt, stop_text, stop_value, run_told_by}
 use Rattle.world_run.specs.Tallying.{IsTallyOf, IsTallied, Summarizes, SummarizesToStop, TalliesTo, first_votes, shown_votes, summary_of}
 use Rattle.world_run.proofs.RunSteps.{stop_is}
 

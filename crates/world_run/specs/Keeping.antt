@@ -13,14 +13,14 @@ use Rattle.guards_model.specs.Texts.{TextValue, StopValue, stop_line}
 use Rattle.guards_world.specs.Worlds.{WorldValue}
 use Rattle.icn_world.specs.declared.world.Halt.{Halt}
 use Rattle.icn_world.specs.declared.world.Halt.TheVariants as halt
-use Rattle.guards_io.specs.Writes.{AppendsPart}
+use Rattle.guards_io.specs.Writes.{AppendsPart, WritesLine}
 use Rattle.guards_io.specs.Views.{SinkView}
 use Rattle.run_laws.specs.Runs.{HasCarried, with_unfinished}
 use Rattle.output_gate.specs.Gates.{GateValue}
 use Rattle.run_laws.specs.Driving.{CyclesRan, RunStopped, RunBroken, IsDriven, last_told, short_told}
 use Rattle.world_run.specs.declared.stop.RunStop.{RunStop}
 use Rattle.world_run.specs.declared.stop.RunStop.TheVariants.{Halted, WriteFault}
-use Rattle.world_run.specs.Running.{WritesLine, stop_text, stop_value}
+use Rattle.world_run.specs.Running.{stop_text, stop_value}
 
 -- what handing a text to a sink does: it was written, or the sink failed and a front of it was
 abbrev pub HandsOver : SinkView → SinkView → TextValue → Result (Unit {0}) Failed → Type 0

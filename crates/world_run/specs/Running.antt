@@ -11,7 +11,7 @@ use Rattle.guards_model.specs.Rounds.{Histories}
 use Rattle.guards_model.specs.Records.{shown}
 use Rattle.guards_model.specs.Texts.{TextValue, Part, RecordValue, StopValue, part_text, text_of_parts, cycle_part, out_line, stop_line}
 use Rattle.guards_world.specs.Worlds.{WorldValue}
-use Rattle.guards_io.specs.Writes.{AppendsPart, AppendsFront}
+use Rattle.guards_io.specs.Writes.{AppendsFront, WritesLine}
 use Rattle.guards_io.specs.Views.{SinkView}
 use Rattle.guards_io.specs.declared.writing.WriteStop.{WriteStop}
 use Rattle.guards_io.specs.declared.writing.WriteStop.TheVariants as write
@@ -44,12 +44,6 @@ cycle_text trace M gate part = bare_text trace M part ++ words_line gate
 -- the line of a stop
 unfoldable pub stop_text : StopValue → TextValue
 stop_text stop = stop_line stop
-
--- A line was written, or, only where the sink's faults rose, a front of it.
-abbrev pub WritesLine : SinkView → SinkView → TextValue → Type 0
-WritesLine old new line =
-    (Appends old.written new.written line × (new.faults ≡ old.faults))
-    ⊎ (AppendsPart old.written new.written line × Rose old.faults new.faults)
 
 -- Of these parts in their order the first `whole` were written, and of the next one a front that is not all of it.
 pub record WroteParts (old new : Option (List ℕ)) (parts : List Part) (whole : ℕ) : Type 0 where

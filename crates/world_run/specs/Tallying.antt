@@ -10,7 +10,7 @@ use Rattle.guards_model.specs.Texts.{TextValue, LineValue, StopValue, part_text,
 use Rattle.guards_model.specs.CheckTexts.{summary_part}
 use Rattle.guards_runs.specs.Cycles.{Past, cycles_before}
 use Rattle.guards_world.specs.Worlds.{WorldValue}
-use Rattle.guards_io.specs.Writes.{AppendsPart}
+use Rattle.guards_io.specs.Writes.{AppendsPart, WritesLine}
 use Rattle.guards_io.specs.Views.{SinkView}
 use Rattle.run_laws.specs.Runs.{HasCarried, HasRunCycles, HasRunToStop, HasRunPart, IsBetween}
 use Rattle.run_laws.specs.Summaries.{joins_in, removals_in, last_votes, summary}
@@ -18,7 +18,7 @@ use Rattle.icn_world.specs.declared.world.Halt.TheVariants as halt
 use Rattle.world_run.specs.declared.stop.RunStop.{RunStop}
 use Rattle.world_run.specs.declared.stop.RunStop.TheVariants.{Halted, WriteFault}
 use Rattle.world_run.specs.declared.tally.Tally.{Tally}
-use Rattle.world_run.specs.Running.{stop_value, WritesLine}
+use Rattle.world_run.specs.Running.{stop_value}
 
 -- the votes of the first line
 abbrev pub first_votes : List LineValue → Option (List (Option ℤ))

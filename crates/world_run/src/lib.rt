@@ -13,4 +13,3 @@ pub use keeping::run_last;
 pub use running::run;
 pub use stop::RunStop;
 pub use summary::summarize;
-pub use writing::put_line;

@@ -3,23 +3,16 @@ ghost use Rattle.std.specs.Prelude.{◌≡◌, ◌≤◌, ◌++◌, IfOk, OnOk, 
 ghost use Rattle.output_gate.specs.Gates.{GateValue};
 ghost use Rattle.guards_io.specs.Writes.{Puts};
 ghost use Rattle.guards_runs.specs.IdealReport.{head, last};
-ghost use Rattle.world_run.specs.Running.{WritesLine, TellsStop, bare_text, cycle_text, stop_text, stop_value, words_line};
+ghost use Rattle.world_run.specs.Running.{TellsStop, bare_text, cycle_text, stop_text, stop_value, words_line};
 
 use crate::stop::RunStop;
 use guards_base::{ChanSet, CycleRecord, Text};
-use guards_io::{Sink, WriteStop, put, write_all};
+use guards_io::{Sink, WriteStop, put, put_line};
 use guards_model::Slot;
 use icn_world::Halt;
 use mission_type::Mission;
 use output_gate::OutputGate;
 use std::alloc::{AllocError, Global};
-
-/// Writes a line that ends a call, as far as the sink takes it.
-pub fn put_line<K: Sink>(out: &mut K, line: &str)
-    ensures { WritesLine (K.seen out.old) (K.seen out.new) line.now }
-{
-    let _ = write_all(out, line.as_bytes());
-}
 
 #[tactic(auto, unfolding(guards_runs::specs::IdealReport::head))]
 pub(crate) fn head_text(alloc: Global, mission: &Mission) -> Result<Text, AllocError>

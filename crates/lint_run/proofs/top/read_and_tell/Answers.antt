@@ -1,6 +1,6 @@
 use Rattle.std.proofs.Common.{inr, subst}
 use Rattle.guards_io.specs.Views.{SinkView}
-use Rattle.mission_run.specs.Reading.{ReadsMission}
+use Rattle.mission_check.specs.Reading.{ReadsMission}
 use Rattle.lint_run.specs.Outcomes.{LintsMission}
 use Rattle.lint_run.proofs.top.read_and_tell.Goals as goal
 

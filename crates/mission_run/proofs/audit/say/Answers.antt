@@ -12,5 +12,5 @@ returns-in-Yes g c = λ M trace verdict.
     let out' = g.K.Sink.seen c.put.new.out in
     let wrote = subst (λ (line : List ℕ). Writes out out' line c.put.result) c.yes_line.ensures
     (puts_writes _ _ _ _ c.put.ensures) in
-    told_yes M trace out out' c.told.result (subst (IsVerdict M trace) c.in-Yes.is verdict)
-    (c.told.ensures yes_line out out' wrote)
+    told_yes M trace out out' c.status_of_write.result (subst (IsVerdict M trace) c.in-Yes.is verdict)
+    (c.status_of_write.ensures yes_line out out' wrote)

@@ -1,5 +1,5 @@
-use Rattle.mission_run.proofs.MissionTold.{check_completes}
-use Rattle.mission_run.proofs.reading.check_mission.Goals as goal
+use Rattle.mission_check.proofs.MissionTold.{check_completes}
+use Rattle.mission_check.proofs.reading.check_mission.Goals as goal
 
 pub returns-clause-completes : goal.returns-clause-completes
 returns-clause-completes g c =

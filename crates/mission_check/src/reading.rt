@@ -1,7 +1,7 @@
 //! Reads a mission, and tells what it is.
 ghost use Rattle.guards_io.specs.Writes.{Writes};
 ghost use Rattle.guards_io.specs.Views.{SinkView};
-ghost use Rattle.mission_run.specs.Reading.{ReadsMission, RefusesMission, Tells, ChecksBytes, CompletesCheck};
+ghost use Rattle.mission_check.specs.Reading.{ReadsMission, RefusesMission, Tells, ChecksBytes, CompletesCheck};
 ghost use Rattle.std.specs.Prelude.{List, ℕ};
 
 use crate::check::write_check;
@@ -9,14 +9,13 @@ use crate::limit::MAX_MISSION_BYTES;
 use crate::lines::{long_line, mission_line, read_line};
 use crate::status::Status;
 use document_checks::ReadFault;
-use guards_io::{ReadStop, Sink, Source, WriteStop, read_all};
+use guards_io::{ReadStop, Sink, Source, WriteStop, put_line, read_all};
 use mission_text::read;
 use mission_type::Mission;
 use std::alloc::Global;
-use world_run::put_line;
 
 /// Writes the line of bytes that are no mission.
-pub(crate) fn refuse_mission<K: Sink>(alloc: Global, out: &mut K, fault: ReadFault) -> Status
+pub fn refuse_mission<K: Sink>(alloc: Global, out: &mut K, fault: ReadFault) -> Status
     ensures { RefusesMission fault (K.seen out.old) (K.seen out.new) result }
 {
     let ReadFault::Bad(why) = fault else {
@@ -59,7 +58,7 @@ pub fn read_mission<S: Source, K: Sink>(
 }
 
 /// The status of a text that was written.
-pub(crate) fn told(written: Result<(), WriteStop>) -> Status
+pub fn status_of_write(written: Result<(), WriteStop>) -> Status
     ensures { (text : List ℕ) (old new : SinkView) → Writes old new text written → Tells text old new result }
 {
     match written {
@@ -85,7 +84,7 @@ fn check_read<S: Source, K: Sink>(alloc: Global, src: &mut S, out: &mut K) -> St
         (S.seen src.old) (S.seen src.new) (K.seen out.old) (K.seen out.new) result }
 {
     match read_mission(alloc, src, out) {
-        Ok(mission) => told(write_check(alloc, &mission, out)),
+        Ok(mission) => status_of_write(write_check(alloc, &mission, out)),
         Err(status) => status,
     }
 }

@@ -1,6 +1,6 @@
 //! What came of a command.
 ghost use Rattle.std.specs.Prelude.{◌≡◌};
-ghost use Rattle.mission_run.specs.Statuses.{status_code};
+ghost use Rattle.mission_check.specs.Statuses.{status_code};
 
 use document_checks::Why;
 use guards_base::ChanSet;

@@ -6,7 +6,7 @@ use Rattle.guards_io.specs.Writes.{Writes}
 use Rattle.guards_io.specs.Views.{SinkView}
 use Rattle.guards_io.proofs.WritesLemmas.{writes_then, writes_stop}
 use Rattle.task_table.specs.Tables.{TableValue}
-use Rattle.mission_run.proofs.check.write_check.Goals as goal
+use Rattle.mission_check.proofs.check.write_check.Goals as goal
 
 pub returns-in_err-put_head : goal.returns-in_err-put_head
 returns-in_err-put_head g c =

@@ -4,8 +4,8 @@ use Rattle.std.proofs.lemmas.Result.{err_from_is_err_and}
 use Rattle.check_text.specs.Check.{row_text, texts_from}
 use Rattle.guards_io.specs.Writes.{Writes}
 use Rattle.guards_io.specs.Views.{SinkView}
-use Rattle.mission_run.proofs.RowTexts.{rows_more, rows_stop}
-use Rattle.mission_run.proofs.check.put_rows.Goals as goal
+use Rattle.mission_check.proofs.RowTexts.{rows_more, rows_stop}
+use Rattle.mission_check.proofs.check.put_rows.Goals as goal
 
 pub returns-in_err-put_row : goal.returns-in_err-put_row
 returns-in_err-put_row g c =

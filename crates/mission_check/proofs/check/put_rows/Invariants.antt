@@ -1,7 +1,7 @@
 use Rattle.std.proofs.Common.{◌≡◌}
 use Rattle.std.specs.Io.KnownBytes.{Appends}
-use Rattle.mission_run.proofs.RowTexts.{rows_before}
-use Rattle.mission_run.proofs.check.put_rows.Given as goal
+use Rattle.mission_check.proofs.RowTexts.{rows_before}
+use Rattle.mission_check.proofs.check.put_rows.Given as goal
 
 -- the lines of the rows before this one were written
 abbrev pub invariant-loop-row : goal.invariant-loop-row

@@ -4,13 +4,13 @@ use Rattle.std.specs.Io.KnownBytes.{Consumes, IsAtEnd}
 use Rattle.guards_model.specs.Missions.{MissionValue}
 use Rattle.document_checks.specs.declared.why.Why.{Why}
 use Rattle.guards_io.specs.Views.{SinkView, SourceView}
-use Rattle.mission_run.specs.declared.limit.TheConstants.{MAX_MISSION_BYTES}
+use Rattle.mission_check.specs.declared.limit.TheConstants.{MAX_MISSION_BYTES}
 use Rattle.guards_io.specs.Causes.{Rose}
 use Rattle.check_text.specs.Check.{check_of}
 use Rattle.mission_text.specs.Mission.{mission_of}
-use Rattle.mission_run.specs.declared.status.Status.{Status}
-use Rattle.mission_run.specs.declared.status.Status.TheVariants.{Done, Usage, BadMission, TooLong, ReadFault, WriteFault, TooManyDisturbed, NoMemory, NotARun}
-use Rattle.mission_run.specs.Reading.{TakesAll, RefusesBytes, Tells, ChecksBytes, CompletesCheck}
+use Rattle.mission_check.specs.declared.status.Status.{Status}
+use Rattle.mission_check.specs.declared.status.Status.TheVariants.{Done, Usage, BadMission, TooLong, ReadFault, WriteFault, TooManyDisturbed, NoMemory, NotARun}
+use Rattle.mission_check.specs.Reading.{TakesAll, RefusesBytes, Tells, ChecksBytes, CompletesCheck}
 
 -- a source that is at its end gave all that it told
 pub taken_all : (left left' : Option (List ℕ)) (bytes all : List ℕ) → left ≡ Some all → Consumes left left' bytes →

@@ -1,7 +1,7 @@
 -- The exit status of each status.
 use Rattle.std.specs.Prelude.{ℕ}
-use Rattle.mission_run.specs.declared.status.Status.{Status}
-use Rattle.mission_run.specs.declared.status.Status.TheVariants.{Done, Usage, BadMission, TooLong, ReadFault, WriteFault, TooManyDisturbed, NoMemory, NotARun}
+use Rattle.mission_check.specs.declared.status.Status.{Status}
+use Rattle.mission_check.specs.declared.status.Status.TheVariants.{Done, Usage, BadMission, TooLong, ReadFault, WriteFault, TooManyDisturbed, NoMemory, NotARun}
 
 abbrev pub status_code : Status → ℕ
 status_code Done = 0

@@ -6,14 +6,13 @@ use Rattle.guards_model.specs.Missions.{MissionValue}
 use Rattle.document_checks.specs.declared.why.ReadFault.{ReadFault as Fault}
 use Rattle.document_checks.specs.declared.why.ReadFault.TheVariants as fault
 use Rattle.mission_text.specs.Mission.{mission_of}
-use Rattle.guards_io.specs.Writes.{AppendsPart, AppendsFront}
+use Rattle.guards_io.specs.Writes.{AppendsPart, AppendsFront, WritesLine}
 use Rattle.guards_io.specs.Views.{SinkView, SourceView}
 use Rattle.check_text.specs.Check.{check_of}
-use Rattle.world_run.specs.Running.{WritesLine}
-use Rattle.mission_run.specs.declared.limit.TheConstants.{MAX_MISSION_BYTES}
-use Rattle.mission_run.specs.declared.status.Status.{Status}
-use Rattle.mission_run.specs.declared.status.Status.TheVariants.{Done, Usage, BadMission, TooLong, ReadFault, WriteFault, TooManyDisturbed, NoMemory, NotARun}
-use Rattle.mission_run.specs.Lines.{mission_line, long_line, read_line}
+use Rattle.mission_check.specs.declared.limit.TheConstants.{MAX_MISSION_BYTES}
+use Rattle.mission_check.specs.declared.status.Status.{Status}
+use Rattle.mission_check.specs.declared.status.Status.TheVariants.{Done, Usage, BadMission, TooLong, ReadFault, WriteFault, TooManyDisturbed, NoMemory, NotARun}
+use Rattle.mission_check.specs.Lines.{mission_line, long_line, read_line}
 
 -- The bytes were taken, and no fault came.
 abbrev pub TakesBytes : SourceView → SourceView → List ℕ → Type 0

@@ -1,0 +1,2 @@
+pub mod MissionTold
+pub mod RowTexts
