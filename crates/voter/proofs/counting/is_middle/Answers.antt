@@ -26,10 +26,10 @@ unfolding stands_in_middle
 returns-then-count_less-middle c =
     few_then c.count_less.result c.count_at_most.result _ _ c.saturating_sub-middle.result _
     (ap (λ s. s / 2) c.saturating_sub-middle.ensures) c.count_less.ensures c.count_at_most.ensures
-    c.if-less-middle.true
+    c.if-count_less-middle.true
 
 pub returns-else-count_less-middle : goal.returns-else-count_less-middle
 unfolding stands_in_middle
 returns-else-count_less-middle c =
     few_else c.count_less.result _ _ c.saturating_sub-middle.result _ (ap (λ s. s / 2) c.saturating_sub-middle.ensures)
-    c.count_less.ensures c.if-less-middle.false
+    c.count_less.ensures c.if-count_less-middle.false
