@@ -33,11 +33,7 @@ mission =
       width = 1;
       return_after = 2;
       initial = zeroed 1;
-      table = (record {
-        name = codes "sum";
-        writes = record { block = 0; set = Some (binary Add (block_word 0 0) (input 0)) ∷ replicate 7 None } ∷ [];
-      }
-          ∷ []) ∷ [];
+      table = (record { name = codes "sum"; writes = record { block = 0; set = Some (binary Add (block_word 0 0) (input 0)) ∷ replicate 7 None } ∷ [] } ∷ []) ∷ [];
       outputs = (0, 0) ∷ [];
       sensors = ((pos 5 ∷ []) ∷ (pos 5 ∷ []) ∷ (pos 5 ∷ []) ∷ []) ∷ [];
       script = bus (record { cycle = 0; slot = Vote; from = 2; to = Some 0; act = lose }) ∷
