@@ -23,7 +23,6 @@ fn ballot_of(ballots: &[Option<Ballot>; 7], me: Chan, own: &Ballot, j: Chan) -> 
 }
 
 // The ballots with the own one in its place.
-#[tactic(auto, unfolding(guards_model::specs::Channels::by_channel))]
 fn with_own_ballot(ballots: &[Option<Ballot>; 7], me: Chan, own: &Ballot) -> [Option<Ballot>; 7]
     ensures { result ≡ with_own me own.now ballots.now }
 {

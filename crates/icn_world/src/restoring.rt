@@ -46,7 +46,6 @@ fn set_sent<A: Arrived>(arrived: &A, from: Chan) -> Option<ChanSet>
 }
 
 // The sets that arrived at the switchboard, by their senders.
-#[tactic(auto, unfolding(guards_model::specs::Channels::by_channel))]
 fn sets_sent<A: Arrived>(arrived: &A) -> [Option<ChanSet>; 7]
     ensures { result ≡ by_channel (λ j. set_of (A.got arrived.now j switchboard)) }
 {

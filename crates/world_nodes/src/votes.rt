@@ -26,7 +26,6 @@ fn ballot<A: Arrived>(arrived: &A, from: Chan, me: Chan) -> Option<Ballot>
 }
 
 // The ballots that arrived at a channel.
-#[tactic(auto, unfolding(guards_model::specs::Channels::by_channel))]
 fn ballots<A: Arrived>(arrived: &A, me: Chan) -> [Option<Ballot>; 7]
     ensures { result ≡ ballots_arrived (A.got arrived.now) me }
 {
