@@ -1,7 +1,8 @@
 -- SendsSlot one after the other, and what they come to.
-use Rattle.std.proofs.Common.{◌≡◌, ℕ, zero, suc, ◌+◌, List, [], ◌∷◌, ◌++◌, length, map, take, Some, refl, sym, ap, subst, ◌∙◌, arith}
-use Rattle.std.specs.List.{AllZip, AllByRecursion}
-use Rattle.std.proofs.lemmas.List.{append-nil}
+use Rattle.std.proofs.Common.{◌≡◌, ℕ, zero, suc, ◌+◌, ◌<◌, List, [], ◌∷◌, ◌++◌, length, map, take, drop, get_or, Some, refl, sym, ap, subst, ◌∙◌, arith}
+use Rattle.std.specs.List.{AllZip, AllByRecursion, flat_map}
+use Rattle.std.proofs.lemmas.List.{append-nil, take_more, take-append-drop}
+use Rattle.std.proofs.lemmas.Grind.{flat_map-append}
 use Rattle.guards_model.specs.declared.Slot.{Slot}
 use Rattle.guards_model.specs.BusRules.{RuleValue}
 use Rattle.guards_model.specs.Frames.{FrameValue, spelling}
@@ -201,3 +202,22 @@ some_on may script later old mid new first rest before between after same s t =
     some_later may script later old mid new first (rest before.cycle before.slot) before between after same s
     (subst (λ (l : List SendValue). SendsFirstOfSlot may later mid new l between after)
     (same_rest rest before between s.now s.traffic) t)
+
+-- ---- a list, element by element
+
+-- what the first ones and the next one come to
+pub one_more : {X A : Type 0} (f : X → List A) (xs : List X) (i : ℕ) (x : X) → i < length xs → x ≡ get_or xs i x →
+    flat_map f (take i xs) ++ f x ≡ flat_map f (take (i + 1) xs)
+one_more f xs i x below is =
+    ap (λ l. flat_map f (take i xs) ++ l) (sym (append-nil (f x)))
+    ∙ sym (flat_map-append f (take i xs) (x ∷ []))
+    ∙ ap (λ y. flat_map f (take i xs ++ y ∷ [])) is
+    ∙ ap (λ l. flat_map f l) (sym (take_more xs i x below))
+
+-- the first ones, the next one and those after it
+pub with_later : {X A : Type 0} (f : X → List A) (xs : List X) (i : ℕ) (x : X) → i < length xs → x ≡ get_or xs i x →
+    (flat_map f (take i xs) ++ f x) ++ flat_map f (drop (i + 1) xs) ≡ flat_map f xs
+with_later f xs i x below is =
+    ap (λ l. l ++ flat_map f (drop (i + 1) xs)) (one_more f xs i x below is)
+    ∙ sym (flat_map-append f (take (i + 1) xs) (drop (i + 1) xs))
+    ∙ ap (λ l. flat_map f l) (take-append-drop (i + 1) xs)

@@ -1,7 +1,8 @@
 -- What one node sends, to all receivers alike or to each target.
-use Rattle.std.proofs.Common.{◌≡◌, ℕ, zero, suc, ◌<◌, Bool, true, false, cond, not, ◌&&◌, List, [], ◌∷◌, ◌++◌, map, Option, Some, None, refl, sym, ap, subst, ◌∙◌, arith}
+use Rattle.std.proofs.Common.{◌≡◌, ℕ, zero, suc, ◌<◌, ◌+◌, Bool, true, false, cond, not, ◌&&◌, List, [], ◌∷◌, ◌++◌, length, take, drop, get_or, map, Option, Some, None, refl, sym, ap, subst, ◌∙◌, arith}
 use Rattle.std.specs.Prelude.{IsTrue, IfSome, filter, filter_map, option_map, option_and_then}
 use Rattle.std.specs.List.{cons_option}
+use Rattle.std.proofs.lemmas.List.{append-nil, take_more, take-append-drop}
 use Rattle.std.proofs.lemmas.List.Elements.{filter-append, filter_map-append}
 use Rattle.guards_model.specs.declared.Slot.{Slot}
 use Rattle.guards_model.specs.declared.Slot.TheVariants.{Request, Round1, Round2, Round3, Tasks, Vote, Sweep, Final, Switch, Output}
@@ -92,27 +93,54 @@ module _ (M : MissionValue) (c : ℕ) (slot : Slot) (received : Received) (node 
       sends_by c slot (t ∷ []) (framed node c (owes t)) ≡ sends_of M c slot (t ∷ []) received node
   sends_to_target t = by_target t (owes t) refl
 
-  -- one receiver more
-  pub sends_cons : (t : ℕ) (rs : List ℕ) →
-      sends_of M c slot (t ∷ []) received node ++ sends_of M c slot rs received node
-      ≡ sends_of M c slot (t ∷ rs) received node
-  sends_cons t rs =
-      sym (filter_map-append (send_to M c slot received node) (without (t ∷ []) (node.channel ∷ []))
-      (without rs (node.channel ∷ [])))
-      ∙ ap sends (sym (filter-append (λ q. not (has (node.channel ∷ []) q)) (t ∷ []) rs))
+  -- some receivers, and then others
+  pub sends_append : (xs ys : List ℕ) →
+      sends_of M c slot xs received node ++ sends_of M c slot ys received node
+      ≡ sends_of M c slot (xs ++ ys) received node
+  sends_append xs ys =
+      sym (filter_map-append (send_to M c slot received node) (without xs (node.channel ∷ []))
+      (without ys (node.channel ∷ [])))
+      ∙ ap sends (sym (filter-append (λ q. not (has (node.channel ∷ []) q)) xs ys))
 
-  -- the targets among the channels from one on, which is a target
-  pub targets_list : (set one : ChannelSet) (t : ℕ) (ts all : List ℕ) → all ≡ t ∷ ts → has set t ≡ true → one ≡ t ∷ [] →
-      sends_by c slot one (framed node c (owes t)) ++ sends_of M c slot (filter (has set) ts) received node
-      ≡ sends_of M c slot (filter (has set) all) received node
-  targets_list set one t ts all is there alone =
-      let rest = sends_of M c slot (filter (has set) ts) received node in
-      ap (λ (l : List ℕ). sends_by c slot l (framed node c (owes t)) ++ rest) alone
-      ∙ ap (λ (l : List SendValue). l ++ rest) (sends_to_target t)
-      ∙ sends_cons t (filter (has set) ts)
-      ∙ ap (λ (b : Bool). sends_of M c slot (cond b (t ∷ filter (has set) ts) (filter (has set) ts)) received node)
-      (sym there)
-      ∙ ap (λ (l : List ℕ). sends_of M c slot (filter (has set) l) received node) (sym is)
+  -- what is sent to those of these channels that are targets
+  abbrev to_targets : ChannelSet → List ℕ → List SendValue
+  to_targets set ts = sends_of M c slot (filter (has set) ts) received node
+
+  abbrev targets_and : ChannelSet → List ℕ → Bool → ℕ → List SendValue
+  targets_and set ts b t = sends_of M c slot (filter (has set) ts ++ cond b (t ∷ []) []) received node
+
+  -- one channel more, which is a target
+  pub target_sent : (set one : ChannelSet) (ts : List ℕ) (t : ℕ) → has set t ≡ true → one ≡ t ∷ [] →
+      to_targets set ts ++ sends_by c slot one (framed node c (owes t)) ≡ to_targets set (ts ++ t ∷ [])
+  target_sent set one ts t there alone =
+      ap (λ (l : List ℕ). to_targets set ts ++ sends_by c slot l (framed node c (owes t))) alone
+      ∙ ap (λ (l : List SendValue). to_targets set ts ++ l) (sends_to_target t)
+      ∙ sends_append (filter (has set) ts) (t ∷ [])
+      ∙ ap (λ (b : Bool). targets_and set ts b t) (sym there)
+      ∙ ap (λ (l : List ℕ). sends_of M c slot l received node) (sym (filter-append (has set) ts (t ∷ [])))
+
+  -- or is none
+  pub other_passed : (set : ChannelSet) (ts : List ℕ) (t : ℕ) → has set t ≡ false →
+      to_targets set ts ≡ to_targets set (ts ++ t ∷ [])
+  other_passed set ts t absent =
+      ap (λ (l : List ℕ). sends_of M c slot l received node) (sym (append-nil (filter (has set) ts)))
+      ∙ ap (λ (b : Bool). targets_and set ts b t) (sym absent)
+      ∙ ap (λ (l : List ℕ). sends_of M c slot l received node) (sym (filter-append (has set) ts (t ∷ [])))
+
+  -- the targets among the channels before one of them, which is a target, that one, and those after it
+  pub with_later_targets : (set one : ChannelSet) (ts : List ℕ) (i t : ℕ) → i < length ts → t ≡ get_or ts i t →
+      has set t ≡ true → one ≡ t ∷ [] →
+      (to_targets set (take i ts) ++ sends_by c slot one (framed node c (owes t))) ++ to_targets set (drop (i + 1) ts)
+      ≡ to_targets set ts
+  with_later_targets set one ts i t low is there alone =
+      let later = drop (i + 1) ts in
+      let next : take i ts ++ t ∷ [] ≡ take (i + 1) ts =
+      ap (λ (x : ℕ). take i ts ++ x ∷ []) is ∙ sym (take_more ts i t low) in
+      ap (λ (l : List SendValue). l ++ to_targets set later) (target_sent set one (take i ts) t there alone
+      ∙ ap (λ (l : List ℕ). to_targets set l) next)
+      ∙ sends_append (filter (has set) (take (i + 1) ts)) (filter (has set) later)
+      ∙ ap (λ (l : List ℕ). sends_of M c slot l received node) (sym (filter-append (has set) (take (i + 1) ts) later))
+      ∙ ap (λ (l : List ℕ). to_targets set l) (take-append-drop (i + 1) ts)
 
   pub all_targets : (set all : ChannelSet) → set ≡ channels_where (has set) → all ≡ every_channel →
       sends_of M c slot (filter (has set) all) received node ≡ sends_of M c slot set received node
@@ -121,16 +149,21 @@ module _ (M : MissionValue) (c : ℕ) (slot : Slot) (received : Received) (node 
       ap (λ (l : List ℕ). sends_of M c slot (filter (has set) l) received node) every
       ∙ ap (λ (l : List ℕ). sends_of M c slot l received node) (sym is)
 
-  -- the frame that is owed has a spelling
+  -- the frame that is owed, by the cycle and the slot of the traffic
+  pub frame_owed : (to cyc : ℕ) (place : Slot) (frame : Option FrameValue) → cyc ≡ c → place ≡ slot →
+      frame ≡ framed node cyc (body_of M received place to node.state) → frame ≡ framed node c (owes to)
+  frame_owed to cyc place frame now here is =
+      is ∙ ap (λ (k : ℕ). framed node k (body_of M received place to node.state)) now
+      ∙ ap (λ (s : Slot). framed node c (body_of M received s to node.state)) here
+
+  -- it has a spelling
   pub owed_fits : (to cyc : ℕ) (place : Slot) (frame : Option FrameValue) →
       ((to : ℕ) (body : BodyValue) → owes to ≡ Some body → in_range (frame_by c node body) ≡ true) →
       cyc ≡ c → place ≡ slot → frame ≡ framed node cyc (body_of M received place to node.state) →
       IfSome frame (λ f. IsTrue (in_range f))
   owed_fits to cyc place frame fits now here is =
       subst (λ (f : Option FrameValue). IfSome f (λ f. IsTrue (in_range f)))
-      (sym (is ∙ ap (λ (k : ℕ). framed node k (body_of M received place to node.state)) now
-      ∙ ap (λ (s : Slot). framed node c (body_of M received s to node.state)) here))
-      (by_owed (owes to) refl)
+      (sym (frame_owed to cyc place frame now here is)) (by_owed (owes to) refl)
     where
       by_owed : (o : Option BodyValue) → owes to ≡ o → IfSome (framed node c o) (λ f. IsTrue (in_range f))
       by_owed None h = tt

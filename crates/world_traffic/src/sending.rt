@@ -77,10 +77,7 @@ fn send_frame<B: Bus>(
         (sends_by traffic.old.cycle traffic.old.slot (receiver_numbers to) frame) traffic.old traffic.new) }
 {
     match frame {
-        Some(frame) => match traffic.send(bus, frame, to) {
-            Ok(()) => Ok(()),
-            Err(error) => Err(error),
-        },
+        Some(frame) => traffic.send(bus, frame, to),
         None => Ok(()),
     }
 }
@@ -119,10 +116,7 @@ fn send_owed<B: Bus>(
         traffic.slot(),
         target,
     )?;
-    match send_frame(traffic, bus, frame, to) {
-        Ok(()) => Ok(()),
-        Err(error) => Err(error),
-    }
+    send_frame(traffic, bus, frame, to)
 }
 
 // The set of one channel.
@@ -157,24 +151,13 @@ fn send_targets<B: Bus>(
         (received node.now.channel) node.now)
         traffic.old traffic.new) }
 {
-    let Some((target, rest)) = channels.split_first() else {
-        return Ok(());
-    };
-    if targets.has(*target) {
-        let to = Receivers::Channels(set_of_one(*target));
-        match send_owed(alloc, traffic, bus, node, mission, *target, to) {
-            Ok(()) => match send_targets(alloc, traffic, bus, node, mission, targets, rest) {
-                Ok(()) => Ok(()),
-                Err(error) => Err(error),
-            },
-            Err(error) => Err(error),
-        }
-    } else {
-        match send_targets(alloc, traffic, bus, node, mission, targets, rest) {
-            Ok(()) => Ok(()),
-            Err(error) => Err(error),
+    for target in channels {
+        if targets.has(*target) {
+            let to = Receivers::Channels(set_of_one(*target));
+            send_owed(alloc, traffic, bus, node, mission, *target, to)?;
         }
     }
+    Ok(())
 }
 
 // Sends a node's frames of the slot: one for each target, or the same to all.
@@ -204,7 +187,7 @@ fn send_node<B: Bus>(
         match to {
             Receivers::Channels(targets) => {
                 let _ = targets.flags();
-                match send_targets(
+                send_targets(
                     alloc,
                     traffic,
                     bus,
@@ -212,19 +195,13 @@ fn send_node<B: Bus>(
                     mission,
                     targets,
                     &every_channel(),
-                ) {
-                    Ok(()) => Ok(()),
-                    Err(error) => Err(error),
-                }
+                )
             }
             // No frame has the switchboard as its target.
             Receivers::Switchboard => Ok(()),
         }
     } else {
-        match send_owed(alloc, traffic, bus, node, mission, node.channel(), to) {
-            Ok(()) => Ok(()),
-            Err(error) => Err(error),
-        }
+        send_owed(alloc, traffic, bus, node, mission, node.channel(), to)
     }
 }
 
@@ -249,16 +226,10 @@ fn send_each<B: Bus>(
         (all_sends mission.now traffic.old.cycle traffic.old.slot (receiver_numbers to.now) received nodes.now)
         traffic.old traffic.new) }
 {
-    let Some((node, rest)) = nodes.split_first() else {
-        return Ok(());
-    };
-    match send_node(alloc, traffic, bus, node, mission, *to) {
-        Ok(()) => match send_each(alloc, traffic, bus, rest, mission, to) {
-            Ok(()) => Ok(()),
-            Err(error) => Err(error),
-        },
-        Err(error) => Err(error),
+    for node in nodes {
+        send_node(alloc, traffic, bus, node, mission, *to)?;
     }
+    Ok(())
 }
 
 /// Sends what each node owes in the slot of the traffic, in their order: its frame to each receiver, and in the sweep
@@ -284,8 +255,5 @@ pub fn send_slot<B: Bus>(
         (all_sends mission.now traffic.old.cycle traffic.old.slot (receiver_numbers to) received nodes.now) traffic.old
         traffic.new) }
 {
-    match send_each(alloc, traffic, bus, nodes.as_slice(), mission, &to) {
-        Ok(()) => Ok(()),
-        Err(error) => Err(error),
-    }
+    send_each(alloc, traffic, bus, nodes.as_slice(), mission, &to)
 }
