@@ -11,6 +11,6 @@ returns-in-Yes g c = λ M trace verdict.
     let out = g.K.Sink.seen c.args.out.now in
     let out' = g.K.Sink.seen c.put.new.out in
     let wrote = subst (λ (line : List ℕ). Writes out out' line c.put.result) c.yes_line.ensures
-    (puts_writes _ _ _ _ c.put.ensures) in
+    (puts_writes out out' c.yes_line.result.now c.put.result c.put.ensures) in
     told_yes M trace out out' c.status_of_write.result (subst (IsVerdict M trace) c.in-Yes.is verdict)
     (c.status_of_write.ensures yes_line out out' wrote)
