@@ -1,6 +1,7 @@
 -- What reading a mission does, and what telling of it does, by the answer.
 use Rattle.std.specs.Prelude.{◌≡◌, ◌≤◌, ◌+◌, ◌⊎◌, ℕ, List, length, Some, Result, Ok, Err}
 use Rattle.std.specs.Io.KnownBytes.{Appends, Consumes, IsAtEnd}
+use Rattle.guards_base.specs.Seen.{Seen}
 use Rattle.guards_io.specs.Causes.{Rose}
 use Rattle.guards_model.specs.Missions.{MissionValue}
 use Rattle.document_checks.specs.declared.why.ReadFault.{ReadFault as Fault}
@@ -46,6 +47,19 @@ RefusesBytes src src' out out' Usage = ⊥
 RefusesBytes src src' out out' WriteFault = ⊥
 RefusesBytes src src' out out' (TooManyDisturbed cycle slot set active) = ⊥
 RefusesBytes src src' out out' (NotARun line) = ⊥
+
+-- what taking the bytes of a mission does, by its answer: it gives all that the source had left
+abbrev pub GivesBytes : SourceView → SourceView → SinkView → SinkView → Result (Seen ℕ) Status → Type 0
+GivesBytes src src' out out' (Ok bytes) = TakesAll src src' bytes.items × (out' ≡ out)
+GivesBytes src src' out out' (Err status) = RefusesBytes src src' out out' status
+
+-- what reading the mission that bytes are does, by its answer
+abbrev pub ReadsBytes : List ℕ → SinkView → SinkView → Result MissionValue Status → Type 0
+ReadsBytes bytes out out' (Ok M) = (mission_of bytes ≡ Ok M) × (out' ≡ out)
+ReadsBytes bytes out out' (Err (BadMission why)) =
+    (mission_of bytes ≡ Err why) × WritesLine out out' (mission_line why)
+ReadsBytes bytes out out' (Err NoMemory) = out' ≡ out
+ReadsBytes bytes out out' (Err _) = ⊥
 
 -- what reading a mission does, by its answer
 abbrev pub ReadsMission : SourceView → SourceView → SinkView → SinkView → Result MissionValue Status → Type 0

@@ -10,5 +10,7 @@ mod status;
 pub use check::write_check;
 pub use limit::MAX_MISSION_BYTES;
 pub use lines::{long_line, mission_line, read_line};
-pub use reading::{check_mission, read_mission, refuse_mission, status_of_write};
+pub use reading::{
+    check_mission, read_bytes, read_mission, refuse_mission, status_of_write, take_bytes,
+};
 pub use status::Status;

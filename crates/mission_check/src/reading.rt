@@ -1,7 +1,7 @@
 //! Reads a mission, and tells what it is.
 ghost use Rattle.guards_io.specs.Writes.{Writes};
 ghost use Rattle.guards_io.specs.Views.{SinkView};
-ghost use Rattle.mission_check.specs.Reading.{ReadsMission, RefusesMission, Tells, ChecksBytes, CompletesCheck};
+ghost use Rattle.mission_check.specs.Reading.{GivesBytes, ReadsBytes, ReadsMission, RefusesMission, Tells, ChecksBytes, CompletesCheck};
 ghost use Rattle.std.specs.Prelude.{List, ℕ};
 
 use crate::check::write_check;
@@ -9,6 +9,7 @@ use crate::limit::MAX_MISSION_BYTES;
 use crate::lines::{long_line, mission_line, read_line};
 use crate::status::Status;
 use document_checks::ReadFault;
+use guards_base::Bytes;
 use guards_io::{ReadStop, Sink, Source, WriteStop, put_line, read_all};
 use mission_text::read;
 use mission_type::Mission;
@@ -30,6 +31,40 @@ pub fn refuse_mission<K: Sink>(alloc: Global, out: &mut K, fault: ReadFault) -> 
     }
 }
 
+/// Takes the bytes that the source has left, no more than a mission has. Where that fails, it writes the line that says
+/// why.
+pub fn take_bytes<S: Source, K: Sink>(
+    alloc: Global,
+    src: &mut S,
+    out: &mut K,
+) -> Result<Bytes, Status>
+    ensures { GivesBytes
+        (S.seen src.old) (S.seen src.new) (K.seen out.old) (K.seen out.new) result }
+{
+    match read_all(alloc, src, MAX_MISSION_BYTES) {
+        Ok(bytes) => Ok(bytes),
+        Err(ReadStop::Failed) => {
+            put_line(out, read_line());
+            Err(Status::ReadFault)
+        }
+        Err(ReadStop::TooLong) => {
+            put_line(out, long_line());
+            Err(Status::TooLong)
+        }
+        Err(ReadStop::Memory) => Err(Status::NoMemory),
+    }
+}
+
+/// Reads the mission that the bytes are. Where they are none, it writes the line that says why.
+pub fn read_bytes<K: Sink>(alloc: Global, bytes: &[u8], out: &mut K) -> Result<Mission, Status>
+    ensures { ReadsBytes bytes.now (K.seen out.old) (K.seen out.new) result }
+{
+    match read(alloc, bytes) {
+        Ok(mission) => Ok(mission),
+        Err(fault) => Err(refuse_mission(alloc, out, fault)),
+    }
+}
+
 /// Reads the mission that the source gives. Where there is none, it writes the line that says why.
 pub fn read_mission<S: Source, K: Sink>(
     alloc: Global,
@@ -39,21 +74,9 @@ pub fn read_mission<S: Source, K: Sink>(
     ensures { ReadsMission
         (S.seen src.old) (S.seen src.new) (K.seen out.old) (K.seen out.new) result }
 {
-    let bytes = match read_all(alloc, src, MAX_MISSION_BYTES) {
-        Ok(bytes) => bytes,
-        Err(ReadStop::Failed) => {
-            put_line(out, read_line());
-            return Err(Status::ReadFault);
-        }
-        Err(ReadStop::TooLong) => {
-            put_line(out, long_line());
-            return Err(Status::TooLong);
-        }
-        Err(ReadStop::Memory) => return Err(Status::NoMemory),
-    };
-    match read(alloc, bytes.as_slice()) {
-        Ok(mission) => Ok(mission),
-        Err(fault) => Err(refuse_mission(alloc, out, fault)),
+    match take_bytes(alloc, src, out) {
+        Ok(bytes) => read_bytes(alloc, bytes.as_slice(), out),
+        Err(status) => Err(status),
     }
 }
 
