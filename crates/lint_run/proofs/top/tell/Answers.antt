@@ -1,6 +1,7 @@
 use Rattle.std.proofs.Common.{◌≡◌, ◌∙◌, Bool, List, ap, subst}
 use Rattle.guards_model.specs.Texts.{TextValue}
 use Rattle.guards_io.specs.Views.{SinkView}
+use Rattle.guards_io.proofs.WritesLemmas.{puts_writes}
 use Rattle.lint_lines.specs.LineTexts.{lint_text, warns}
 use Rattle.lint_lines.specs.declared.line.LintLine.{LintLine}
 use Rattle.mission_lint.specs.Lines.{lint_of}
@@ -19,4 +20,5 @@ returns g c =
     let warned : c.warn.result ≡ warns (lint_of M) = c.warn.ensures ∙ ap (λ (ls : List LintLine). warns ls) again in
     subst (λ (w : Bool). TellsLines (lint_text (lint_of M)) w before after c.told.result) warned
     (subst (λ (t : TextValue). TellsLines t c.warn.result before after c.told.result) text
-    (c.told.ensures c.as_str.result.now before after c.put-written.ensures))
+    (c.told.ensures c.as_str.result.now before after
+    (puts_writes before after c.as_str.result.now c.put-written.result c.put-written.ensures)))
