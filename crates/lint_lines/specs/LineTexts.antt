@@ -5,7 +5,7 @@ use Rattle.std.specs.Fmt.{decimal}
 use Rattle.guards_model.specs.Slots.{slot_text}
 use Rattle.guards_model.specs.Texts.{TextValue, line_end}
 use Rattle.lint_lines.specs.declared.line.LintLine.{LintLine}
-use Rattle.lint_lines.specs.declared.line.LintLine.TheVariants.{JoinUnbounded, StaysJudged, TransferTakes, TransferRunsOn, CrowdedCycle, IdleRestart, IdleCrash, IdleDamage, IdleRule, SilentWord, UnwrittenOutput, UnreadSensor, UnwrittenWord}
+use Rattle.lint_lines.specs.declared.line.LintLine.TheVariants.{JoinUnbounded, StaysJudged, TransferTakes, TransferRunsOn, CrowdedCycle, IdleRestart, IdleCrash, IdleDamage, IdleRule, SilentWord, UnwrittenOutput, UnreadSensor, UnwrittenWord, IdleTask}
 
 -- Whether a line warns. Others are notes: the length of a transfer, and that a channel stays which is judged in fewer
 -- than half of the cycles.
@@ -23,6 +23,7 @@ is_warning (SilentWord block word) = true
 is_warning (UnwrittenOutput place block word) = true
 is_warning (UnreadSensor place) = true
 is_warning (UnwrittenWord block word) = true
+is_warning (IdleTask place) = true
 
 abbrev pub urgency_text : Bool → TextValue
 urgency_text true = codes "warning"
@@ -43,6 +44,7 @@ path_text (SilentWord block word) = codes "outputs"
 path_text (UnwrittenOutput place block word) = codes "outputs[" ++ decimal place ++ codes "]"
 path_text (UnreadSensor place) = codes "sensors"
 path_text (UnwrittenWord block word) = codes "task"
+path_text (IdleTask place) = codes "task[" ++ decimal place ++ codes "]"
 
 abbrev pub word_name : ℕ → ℕ → TextValue
 word_name block word = codes "b" ++ decimal block ++ codes "." ++ decimal word
@@ -77,6 +79,7 @@ body_text (SilentWord block word) = codes "no output depends on " ++ word_name b
 body_text (UnwrittenOutput place block word) = word_name block word ++ codes " is written by no task of the table"
 body_text (UnreadSensor place) = codes "in" ++ decimal place ++ codes " is read by no task of the table"
 body_text (UnwrittenWord block word) = word_name block word ++ codes " is read and never written"
+body_text (IdleTask place) = codes "stands in no row of the table"
 
 unfoldable pub line_text : LintLine → TextValue
 line_text line = urgency_text (is_warning line) ++ codes " " ++ path_text line ++ codes " " ++ body_text line

@@ -37,6 +37,8 @@ pub enum LintLine {
     UnreadSensor { place: u8 },
     /// The word is read, and begins as 0, and no task of the table writes it.
     UnwrittenWord { block: u16, word: u16 },
+    /// No row of the table names the task of this place.
+    IdleTask { place: usize },
 }
 
 /// Lines, in the order of their paths.

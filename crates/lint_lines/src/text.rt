@@ -42,6 +42,12 @@ fn output_path(alloc: Global, place: u16) -> Result<String, AllocError>
     format!(in alloc; "outputs[{place}]")
 }
 
+fn task_path(alloc: Global, place: usize) -> Result<String, AllocError>
+    ensures { IfOk result (λ text. string_bytes text ≡ codes "task[" ++ decimal place ++ codes "]") }
+{
+    format!(in alloc; "task[{place}]")
+}
+
 fn path_text(alloc: Global, line: LintLine) -> Result<String, AllocError>
     ensures { IfOk result (λ text. string_bytes text ≡ path_text line) }
 {
@@ -59,6 +65,7 @@ fn path_text(alloc: Global, line: LintLine) -> Result<String, AllocError>
         LintLine::UnwrittenOutput { place, .. } => output_path(alloc, place),
         LintLine::UnreadSensor { .. } => String::from_str(alloc, "sensors"),
         LintLine::UnwrittenWord { .. } => String::from_str(alloc, "task"),
+        LintLine::IdleTask { place } => task_path(alloc, place),
     }
 }
 
@@ -199,6 +206,7 @@ fn body_text(alloc: Global, line: LintLine) -> Result<String, AllocError>
         }
         LintLine::UnreadSensor { place } => sensor_text(alloc, place),
         LintLine::UnwrittenWord { block, word } => unwritten_text(alloc, block, word),
+        LintLine::IdleTask { .. } => String::from_str(alloc, "stands in no row of the table"),
     }
 }
 

@@ -228,6 +228,36 @@ to = 8
 note core.sweep a transfer that starts in row 0 takes 1 cycles
 ====
 outputs = [\"b0.0\"]
+table = [[\"b\"], [\"d\", \"b\"]]
+sensors = [[[1], [1], [1], [1]]]
+[core]
+channels = 4
+cycles = 10
+blocks = 2
+width = 1
+threshold = 131071
+[[task]]
+name = \"a\"
+writes = [{ block = 0, w3 = \"b0.3 + 1\" }]
+[[task]]
+name = \"b\"
+writes = [{ block = 0, w0 = \"b0.0 + in0 + b0.1\" }]
+[[task]]
+name = \"bb\"
+writes = [{ block = 1, w0 = \"cycle\" }]
+[[task]]
+name = \"d\"
+writes = [{ block = 0, w1 = \"b0.3\" }]
+----
+1
+note core.keep a channel that is judged errant once in 3 cycles is never removed for it
+note core.sweep a transfer that starts in row 0 takes 1 cycles
+note core.sweep a transfer that starts in row 1 takes 1 cycles
+warning task b0.3 is read and never written
+warning task[0] stands in no row of the table
+warning task[2] stands in no row of the table
+====
+outputs = [\"b0.0\"]
 ----
 3
 mission: missing core

@@ -32,7 +32,7 @@ fn just_these_lines_are_written(rt: HostRuntime) -> Result<(), Fail> {
         assert_eq!(rt; told.as_str(), wanted);
         count = count.wrapping_add(1);
     }
-    assert_eq!(rt; count, 7);
+    assert_eq!(rt; count, 8);
     Ok(())
 }
 

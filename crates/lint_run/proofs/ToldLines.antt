@@ -8,8 +8,7 @@ use Rattle.guards_io.specs.Views.{SinkView}
 use Rattle.lint_lines.specs.LineTexts.{lint_text, warns}
 use Rattle.lint_run.specs.declared.status.LintStatus.{LintStatus}
 use Rattle.lint_run.specs.declared.status.LintStatus.TheVariants.{Clean, Warned, Stopped}
-use Rattle.lint_run.specs.Outcomes.{IsStop, TellsLines, RefusesWith, RefusesWords, LintsBytes, LintOutcome, LintCompletes}
-use Rattle.mission_lint.specs.Lines.{lint_of}
+use Rattle.lint_run.specs.Outcomes.{IsStop, TellsLines, RefusesWith, RefusesWords, LintsBytes, LintOutcome, LintCompletes, told_lines}
 use Rattle.mission_check.specs.declared.limit.TheConstants.{MAX_MISSION_BYTES}
 use Rattle.mission_check.specs.declared.status.Status.{Status}
 use Rattle.mission_check.specs.declared.status.Status.TheVariants.{Done, NoMemory}
@@ -64,7 +63,7 @@ bytes_end : (src src' : SourceView) (out out' : SinkView) (status : LintStatus) 
 bytes_end src src' out out' status bytes M (inl refused) told within is no_read no_write =
     refusal_ends src src' out out' status bytes M refused told within is no_read
 bytes_end src src' out out' status bytes M (inr went) told within is no_read no_write =
-    lines_end (lint_text (lint_of went.1)) (warns (lint_of went.1)) out out' status went.4 no_write
+    lines_end (lint_text (told_lines went.0 went.1)) (warns (told_lines went.0 went.1)) out out' status went.4 no_write
 
 pub lint_completes : {A : Type 0} (words : List A) (src src' : SourceView) (out out' : SinkView) (status : LintStatus) →
     LintOutcome words src src' out out' status →

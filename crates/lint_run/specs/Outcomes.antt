@@ -1,5 +1,5 @@
 -- What the linter does, by its status.
-use Rattle.std.specs.Prelude.{◌≡◌, ◌≤◌, ◌⊎◌, ℕ, Bool, true, false, List, [], ◌∷◌, length, codes, Some, Ok}
+use Rattle.std.specs.Prelude.{◌≡◌, ◌≤◌, ◌⊎◌, ℕ, Bool, true, false, List, [], ◌∷◌, ◌++◌, length, codes, Some, Ok}
 use Rattle.std.specs.Io.KnownBytes.{Appends}
 use Rattle.guards_io.specs.Causes.{Rose}
 use Rattle.guards_io.specs.Views.{SourceView}
@@ -7,6 +7,8 @@ use Rattle.guards_model.specs.Missions.{MissionValue}
 use Rattle.guards_model.specs.Texts.{TextValue}
 use Rattle.guards_io.specs.Views.{SinkView}
 use Rattle.guards_io.specs.Writes.{WritesLine}
+use Rattle.document_lint.specs.IdleTasks.{document_lines}
+use Rattle.lint_lines.specs.declared.line.LintLine.{LintLine}
 use Rattle.lint_lines.specs.LineTexts.{lint_text, warns}
 use Rattle.lint_run.specs.declared.status.LintStatus.{LintStatus}
 use Rattle.lint_run.specs.declared.status.LintStatus.TheVariants.{Clean, Warned, Stopped}
@@ -42,9 +44,14 @@ TellsLines text warned out out' Warned = (warned ≡ true) × Appends out.writte
     ≡ out.faults)
 TellsLines text warned out out' (Stopped status) = IsStop status × Tells text out out' status
 
--- what telling of a mission does: it tells just the lines of the definition
-abbrev pub LintsMission : MissionValue → SinkView → SinkView → LintStatus → Type 0
-LintsMission M out out' status = TellsLines (lint_text (lint_of M)) (warns (lint_of M)) out out' status
+-- the lines on a mission, and behind them those on the document that its bytes are
+abbrev pub told_lines : List ℕ → MissionValue → List LintLine
+told_lines bytes M = lint_of M ++ document_lines bytes
+
+-- what telling of a mission and its bytes does: it tells just these lines
+abbrev pub LintsMission : List ℕ → MissionValue → SinkView → SinkView → LintStatus → Type 0
+LintsMission bytes M out out' status =
+    TellsLines (lint_text (told_lines bytes M)) (warns (told_lines bytes M)) out out' status
 
 -- the bytes that the source gives are no mission, or were not read to their end, and that is told as `guards` does
 abbrev pub RefusesWith : SourceView → SourceView → SinkView → SinkView → LintStatus → Type 0
@@ -57,7 +64,7 @@ abbrev pub LintsBytes : SourceView → SourceView → SinkView → SinkView → 
 LintsBytes src src' out out' status =
     RefusesWith src src' out out' status
     ⊎ ((bytes : List ℕ) × (M : MissionValue) × TakesAll src src' bytes × (mission_of bytes ≡ Ok M) ×
-    LintsMission M out out' status)
+    LintsMission bytes M out out' status)
 
 -- wrong words are told, and nothing else is done
 abbrev pub RefusesWords : SourceView → SourceView → SinkView → SinkView → LintStatus → Type 0

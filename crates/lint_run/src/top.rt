@@ -1,17 +1,18 @@
 //! The top call: all that the program does.
-ghost use Rattle.std.specs.Prelude.{◌≡◌, ℕ, Bool, List};
+ghost use Rattle.std.specs.Prelude.{◌≡◌, ℕ, Bool, List, IfOk};
 ghost use Rattle.guards_io.specs.Views.{SinkView};
 ghost use Rattle.guards_io.specs.Writes.{Writes};
-ghost use Rattle.lint_run.specs.Outcomes.{LintCompletes, LintOutcome, LintsBytes, LintsMission, RefusesWith, TellsLines, lint_usage};
+ghost use Rattle.lint_run.specs.Outcomes.{LintCompletes, LintOutcome, LintsBytes, LintsMission, RefusesWith, TellsLines, lint_usage, told_lines};
 
 use crate::status::LintStatus;
+use document_lint::push_document_lines;
 use guards_base::Words;
 use guards_io::{Sink, Source, WriteStop, put, put_line};
-use lint_lines::{lines_text, warn};
-use mission_check::{Status, read_mission};
+use lint_lines::{Lines, lines_text, warn};
+use mission_check::{Status, read_bytes, take_bytes};
 use mission_lint::find_lines;
 use mission_type::Mission;
-use std::alloc::Global;
+use std::alloc::{AllocError, Global};
 
 /// The line of wrong words.
 #[tactic(auto, unfolding(crate::specs::Outcomes::lint_usage))]
@@ -36,13 +37,22 @@ fn told(written: Result<(), WriteStop>, warned: bool) -> LintStatus
     }
 }
 
-/// Writes the lines on a mission.
+/// The lines on a mission, and those on the document that its bytes are.
+fn all_lines(alloc: Global, bytes: &[u8], mission: &Mission) -> Result<Lines, AllocError>
+    ensures { IfOk result (λ lines. lines.items ≡ told_lines bytes.now mission.now) }
+{
+    let mut lines = find_lines(alloc, mission)?;
+    push_document_lines(alloc, bytes, &mut lines)?;
+    Ok(lines)
+}
+
+/// Writes the lines on a mission and its bytes.
 #[tactic(auto, using(guards_io::proofs::WritesLemmas::nothing_written))]
-fn tell<K: Sink>(alloc: Global, mission: &Mission, out: &mut K) -> LintStatus
-    ensures { LintsMission mission.now (K.seen out.old)
+fn tell<K: Sink>(alloc: Global, bytes: &[u8], mission: &Mission, out: &mut K) -> LintStatus
+    ensures { LintsMission bytes.now mission.now (K.seen out.old)
         (K.seen out.new) result }
 {
-    let Ok(lines) = find_lines(alloc, mission) else {
+    let Ok(lines) = all_lines(alloc, bytes, mission) else {
         return LintStatus::Stopped(Status::NoMemory);
     };
     let Ok(text) = lines_text(alloc, lines.as_slice()) else {
@@ -60,8 +70,13 @@ fn read_and_tell<S: Source, K: Sink>(alloc: Global, src: &mut S, out: &mut K) ->
         (K.seen out.old)
         (K.seen out.new) result }
 {
-    match read_mission(alloc, src, out) {
-        Ok(mission) => tell(alloc, &mission, out),
+    let taken = match take_bytes(alloc, src, out) {
+        Ok(bytes) => bytes,
+        Err(status) => return LintStatus::Stopped(status),
+    };
+    let bytes = taken.as_slice();
+    match read_bytes(alloc, bytes, out) {
+        Ok(mission) => tell(alloc, bytes, &mission, out),
         Err(status) => LintStatus::Stopped(status),
     }
 }
