@@ -38,10 +38,12 @@ abbrev pub lane_y : ℕ → Lane → ℕ
 lane_y channels (lane.State q) = channel_y q
 lane_y channels (lane.Judged q) = channel_y q
 lane_y channels (lane.Count q) = channel_y q
+lane_y channels (lane.Threshold q) = channel_y q
 lane_y channels (lane.Removed q) = channel_y q
 lane_y channels (lane.Joined q) = channel_y q
 lane_y channels (lane.Dropped q) = channel_y q
 lane_y channels lane.Remaining = transfer_y channels
+lane_y channels lane.Final = transfer_y channels
 lane_y channels (lane.Output k) = output_y channels k
 
 -- ---- the height of bars: in proportion to the greatest value that is shown
@@ -51,7 +53,9 @@ scaled value highest tall = min tall (value * tall / max 1 highest)
 
 abbrev pub measured : Measure → Shown → ℕ
 measured measure.Counts (shown.Count count) = count
+measured measure.Counts (shown.Threshold count) = count
 measured measure.Blocks (shown.Blocks left) = left
+measured measure.Blocks (shown.Final blocks) = blocks
 measured _ _ = 0
 
 abbrev pub highest : Measure → List Mark → ℕ

@@ -14,7 +14,7 @@ use crate::sheet::{
     Scale, Sheet, axis_y, channel_y, cycle_x, output_y, scales, sheet_of, transfer_y,
 };
 use guards_base::{Chan, ChanSet, Slot};
-use picture_marks::{CycleFacts, End, Mark, marks};
+use picture_marks::{CycleFacts, End, Limits, Mark, marks};
 use std::alloc::{AllocError, Global};
 use svg_text::{Corner, Side, close, label, line, open, rect};
 
@@ -436,10 +436,12 @@ fn sheet_text(
     format!(in alloc; "{front}{plot}{marks}{stop}{foot}")
 }
 
-/// The picture of a report with so many channels, outputs and cycles, by what it tells of each cycle and how it ends.
+/// The picture of a report with so many channels, outputs and cycles, by what it tells of each cycle and how it ends, and
+/// with the limits of its mission where that is known.
 #[tactic(auto, unfolding(crate::specs::Picture::svg_of))]
 pub fn picture_text(
     alloc: Global,
+    limits: Option<Limits>,
     channels: u8,
     outputs: u8,
     cycles: u32,
@@ -449,9 +451,9 @@ pub fn picture_text(
     requires channels { channels ≤ 7 }
     requires told { length told.now < 2 ^ 32 }
     ensures { IfOk result (λ text. string_bytes text
-        ≡ svg_of channels outputs cycles (length told.now) end.now (marks_of channels outputs told.now)) }
+        ≡ svg_of channels outputs cycles (length told.now) end.now (marks_of limits channels outputs told.now)) }
 {
-    let marks = marks(alloc, channels, outputs, told)?;
+    let marks = marks(alloc, limits, channels, outputs, told)?;
     let sheet = sheet_of(channels, outputs, cycles, &marks);
     let scales = scales(alloc, outputs, &marks)?;
     sheet_text(

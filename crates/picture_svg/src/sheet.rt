@@ -85,10 +85,12 @@ pub(crate) fn lane_y(channels: u8, lane: Lane) -> u64
         Lane::State { channel } => channel_y(channel),
         Lane::Judged { channel } => channel_y(channel),
         Lane::Count { channel } => channel_y(channel),
+        Lane::Threshold { channel } => channel_y(channel),
         Lane::Removed { channel } => channel_y(channel),
         Lane::Joined { channel } => channel_y(channel),
         Lane::Dropped { channel } => channel_y(channel),
         Lane::Remaining => transfer_y(channels),
+        Lane::Final => transfer_y(channels),
         Lane::Output { place } => output_y(channels, place),
     }
 }
@@ -108,7 +110,9 @@ fn measured(measure: Measure, shown: Shown) -> u64
 {
     match (measure, shown) {
         (Measure::Counts, Shown::Count { count }) => u64::from(count),
+        (Measure::Counts, Shown::Threshold { count }) => u64::from(count),
         (Measure::Blocks, Shown::Blocks { left }) => u64::from(left),
+        (Measure::Blocks, Shown::Final { blocks }) => u64::from(blocks),
         _ => 0,
     }
 }
