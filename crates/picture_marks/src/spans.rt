@@ -165,8 +165,8 @@ fn marks_of_lanes(
     Ok(marks)
 }
 
-/// The marks of a picture of so many channels and outputs, by what was told of each cycle, and by the mission where that
-/// is known.
+/// The marks of a picture of so many channels and outputs, by what was told of each cycle, and with the limits of the
+/// mission where that is known.
 pub fn marks(
     alloc: Global,
     limits: Option<Limits>,

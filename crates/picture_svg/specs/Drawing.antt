@@ -121,7 +121,8 @@ sign_cycle (shown.Dropped cycle) m = m.first
 sign_cycle _ m = m.past
 
 abbrev pub sign_corner : Sheet → Mark → Corner
-sign_corner s m = record { x = cycle_x s.width (sign_cycle m.shown m); y = lane_y s.channels m.lane + foot_of s m.shown }
+sign_corner s m =
+    record { x = cycle_x s.width (sign_cycle m.shown m); y = lane_y s.channels m.lane + foot_of s m.shown }
 
 abbrev pub bar_corner : Sheet → List (Option Scale) → Mark → Corner
 bar_corner s scales m =

@@ -8,7 +8,8 @@ ground_style =
     codes "<style>\n"
     ++ codes ".card{fill:#fff;stroke:#d4d9de;stroke-width:100}text{font-family:DejaVu Sans,Verdana,sans-serif}\n"
     ++ codes ".head{fill:#1b2127;font-weight:600;font-size:1700px}.said{fill:#4c565f;font-size:1200px}\n"
-    ++ codes ".alarm{fill:#b3261e;font-weight:600;font-size:1200px}.name{fill:#1b2127;font-weight:600;font-size:1200px}\n"
+    ++ codes ".alarm{fill:#b3261e;font-weight:600;font-size:1200px}"
+    ++ codes ".name{fill:#1b2127;font-weight:600;font-size:1200px}\n"
     ++ codes ".small{fill:#5d6770;font-size:1000px}.tick{fill:#5d6770;font-size:1000px;text-anchor:middle}\n"
     ++ codes ".grid{stroke:#e3e7ea;stroke-width:100}.axis{stroke:#7d8790;stroke-width:100}.void{fill:#eef0f2}\n"
 
@@ -29,8 +30,10 @@ mark_style =
 unfoldable pub dark_style : TextValue
 dark_style =
     codes "@media (prefers-color-scheme:dark){.card{fill:#161b20;stroke:#39424b}.head,.name{fill:#eef2f5}\n"
-    ++ codes ".said{fill:#b9c3cb}.small,.tick{fill:#a3adb6}.alarm{fill:#ff7a6e}.grid{stroke:#2a323a}.void{fill:#20272d}\n"
-    ++ codes ".runs{fill:#37668c}.judged{fill:#ff8a3d}.count{fill:#c39ae8}.vote{fill:#7cc0f0}.left,.leaf{fill:#21876b}\n"
+    ++ codes ".said{fill:#b9c3cb}.small,.tick{fill:#a3adb6}.alarm{fill:#ff7a6e}"
+    ++ codes ".grid{stroke:#2a323a}.void{fill:#20272d}\n"
+    ++ codes ".runs{fill:#37668c}.judged{fill:#ff8a3d}.count{fill:#c39ae8}"
+    ++ codes ".vote{fill:#7cc0f0}.left,.leaf{fill:#21876b}\n"
     ++ codes ".cross,.disturbed,.stop{stroke:#ff7a6e}.diamond{fill:#4fe0b4;stroke:#161b20}.rib{stroke:#161b20}\n"
     ++ codes ".ring{stroke:#a3adb6}.dash{fill:#eef2f5}}\n"
     ++ codes "</style>\n"

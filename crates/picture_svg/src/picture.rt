@@ -451,7 +451,8 @@ pub fn picture_text(
     requires channels { channels ≤ 7 }
     requires told { length told.now < 2 ^ 32 }
     ensures { IfOk result (λ text. string_bytes text
-        ≡ svg_of channels outputs cycles (length told.now) end.now (marks_of limits channels outputs told.now)) }
+        ≡ svg_of channels outputs cycles (length told.now) end.now
+        (marks_of limits channels outputs told.now)) }
 {
     let marks = marks(alloc, limits, channels, outputs, told)?;
     let sheet = sheet_of(channels, outputs, cycles, &marks);
