@@ -116,7 +116,8 @@ input_ends : (marked : Bool) (input : List ℕ) (p : StoryPlace) (old new : Sink
     HasStory marked input p → DrawsBy marked input old new status → (Rose old.faults new.faults → ⊥) → Ends status
 input_ends true input p old new status has does no_write =
     stream_ends (mission_bytes input) (trace_bytes input) has.0 p old new status has.1 has.2 does no_write
-input_ends false input p old new status has does no_write = report_ends None None input p old new status has does no_write
+input_ends false input p old new status has does no_write =
+    report_ends None None input p old new status has does no_write
 
 module _ (src src' : SourceView) (out out' : SinkView) (input : List ℕ) (p : StoryPlace)
     (told : src.left ≡ Some input) (within : length input ≤ MAX_INPUT_BYTES) (has : HasStory (has_mark input) input p)

@@ -43,7 +43,8 @@ fewer_before (line ∷ lines) = by_test (is_mark line) refl
 pub fewer : (input : List ℕ) → nat_lt (length (mission_bytes input)) (length input) ≡ has_mark input
 unfolding mission_bytes
 fewer input =
-    sym (ap (λ (text : List ℕ). nat_lt (length (concat (lines_before (lines_in input)))) (length text)) (lines_back input))
+    sym (ap (λ (text : List ℕ). nat_lt (length (concat (lines_before (lines_in input)))) (length text))
+    (lines_back input))
     ∙ fewer_before (lines_in input)
 
 few_after : (lines : List (List ℕ)) → length (concat (lines_after lines)) ≤ length (concat lines)

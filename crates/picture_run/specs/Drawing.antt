@@ -35,7 +35,7 @@ outputs_of_sizes (Some s) = s.outputs
 -- the picture of what a report tells, with the limits of its mission where that is known
 abbrev pub picture_of : Option Limits → StoryPlace → List ℕ
 picture_of limits p =
-    svg_of p.channels (outputs_of_sizes p.sizes) p.cycles (length p.told) p.ending
+    svg_of limits p.channels (outputs_of_sizes p.sizes) p.cycles (length p.told) p.ending
     (marks_of limits p.channels (outputs_of_sizes p.sizes) p.told)
 
 -- what a mission says to the picture, and to the lines of its report
@@ -100,8 +100,8 @@ Pictures src src' out out' (Ended TooLong) =
     ⊎ ((input : List ℕ) × TakesUpTo MAX_INPUT_BYTES src src' input × Draws input out out' (Ended TooLong))
 -- only where the source's faults rose, and before the end of what is read
 Pictures src src' out out' (Ended ReadFault) =
-    (input : List ℕ) × (length input ≤ MAX_INPUT_BYTES) × Consumes src.left src'.left input × Rose src.faults src'.faults
-    × WritesLine out out' read_line
+    (input : List ℕ) × (length input ≤ MAX_INPUT_BYTES) × Consumes src.left src'.left input
+    × Rose src.faults src'.faults × WritesLine out out' read_line
 -- while the source is read, at the latest with the byte that is too many; or once it is read
 Pictures src src' out out' (Ended NoMemory) =
     ((input : List ℕ) × (length input ≤ MAX_INPUT_BYTES + 1) × TakesBytes src src' input × (out' ≡ out))

@@ -12,8 +12,8 @@ pub const MAX_INPUT_BYTES: usize = 16_777_216;
 pub enum PictureStatus {
     /// This line, from 1, may not come where it stands, or does not fit the mission; or the report has none.
     BadReport(u32),
-    /// As `guards` ends: the picture was written, or there are words, the bytes before the report are no mission, or are
-    /// too many, the source or the sink failed, or memory ran out.
+    /// As `guards` ends: the picture was written, or there are words, the bytes before the report are no mission, there
+    /// are too many bytes, the source or the sink failed, or memory ran out.
     Ended(Status),
 }
 

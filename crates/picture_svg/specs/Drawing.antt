@@ -1,5 +1,5 @@
 -- What a mark looks like, where it stands, and what it says.
-use Rattle.std.specs.Prelude.{ℕ, ◌+◌, ◌-◌, ◌*◌, ◌==◌, Bool, true, false, List, ◌++◌, get_or, codes, Option, None, if◌then◌else◌}
+use Rattle.std.specs.Prelude.{ℕ, ◌+◌, ◌-◌, ◌*◌, ◌==◌, nat_lt, Bool, true, false, List, [], ◌++◌, get_or, codes, Option, None, if◌then◌else◌}
 use Rattle.std.specs.Fmt.{decimal, signed_decimal}
 use Rattle.guards_model.specs.Texts.{TextValue}
 use Rattle.svg_text.specs.Pieces.{rect_text, svg_sign_text}
@@ -135,9 +135,15 @@ abbrev pub bar_side : Sheet → List (Option Scale) → Mark → Side
 bar_side s scales m =
     record { width = (m.past - m.first) * s.width; height = height_of s scales m.lane m.shown }
 
+-- a threshold above the highest bar is left out
+abbrev pub is_above : Sheet → Shown → Bool
+is_above s (shown.Threshold count) = nat_lt s.most_counted count
+is_above s _ = false
+
 -- the text of a mark
 unfoldable pub mark_text : Sheet → List (Option Scale) → Mark → TextValue
 mark_text s scales m =
     if is_sign m.shown
     then svg_sign_text (class_of m.shown) (sign_corner s m) (title_of m)
-    else rect_text (class_of m.shown) (bar_corner s scales m) (bar_side s scales m) (title_of m)
+    else (if is_above s m.shown then [] else
+    rect_text (class_of m.shown) (bar_corner s scales m) (bar_side s scales m) (title_of m))

@@ -1,7 +1,7 @@
 //! What a mark looks like, where it stands, and what it says.
 ghost use Rattle.std.specs.Prelude.{◌≡◌, ◌≤◌, ◌++◌, ◌+◌, ◌==◌, List, get_or, flat_map, codes, string_bytes, None, IfOk};
 ghost use Rattle.std.specs.Fmt.{decimal};
-ghost use Rattle.picture_svg.specs.Drawing.{bar_corner, bar_side, class_of, foot_of, height_of, is_sign, mark_text, output_of, sign_corner, sign_cycle, subject_text, title_of, when_text, mark_words};
+ghost use Rattle.picture_svg.specs.Drawing.{bar_corner, bar_side, class_of, foot_of, height_of, is_above, is_sign, mark_text, output_of, sign_corner, sign_cycle, subject_text, title_of, when_text, mark_words};
 
 use crate::sheet::{Scale, Sheet, cycle_x, lane_y, scaled, word_height};
 use picture_marks::{Lane, Mark, Shown};
@@ -190,6 +190,16 @@ fn is_sign(shown: Shown) -> bool
     )
 }
 
+/// Whether a mark is a threshold above the highest bar.
+fn is_above(sheet: Sheet, shown: Shown) -> bool
+    ensures { result ≡ is_above sheet shown }
+{
+    match shown {
+        Shown::Threshold { count } => sheet.most_counted < u64::from(count),
+        _ => false,
+    }
+}
+
 /// The cycle where a sign stands: it stands where the cycle begins.
 fn sign_cycle(shown: Shown, mark: Mark) -> u32
     ensures { result ≡ sign_cycle shown mark }
@@ -248,6 +258,9 @@ fn mark_text(
     let title = title_of(alloc, mark)?;
     if is_sign(mark.shown) {
         return sign(alloc, class, sign_corner(sheet, mark), &title);
+    }
+    if is_above(sheet, mark.shown) {
+        return Ok(String::new(alloc));
     }
     let corner = bar_corner(sheet, scales, mark);
     rect(alloc, class, corner, bar_side(sheet, scales, mark), &title)
