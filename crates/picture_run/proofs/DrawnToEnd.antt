@@ -75,10 +75,9 @@ report_ends limits known report p old new (Ended (NotARun line)) is does no_writ
 
 -- the bytes are those of one mission
 one_mission : (bytes : List ℕ) (M N : MissionValue) → IsMissionText bytes M → IsMissionText bytes N → M ≡ N
-one_mission bytes M N is other = same (sym is.1 ∙ other.1)
-  where
-    same : Ok M ≡ Ok N → M ≡ N
-    same e = cc
+one_mission bytes M N is other =
+    let both : Ok M ≡ Ok N = sym is.1 ∙ other.1 in
+    cc
 
 own_ends : (mission report : List ℕ) (M N : MissionValue) (p : StoryPlace) (old new : SinkView)
     (status : PictureStatus) → IsMissionText mission M → story_of (Some (run_sizes M)) report ≡ Ok p →

@@ -27,18 +27,19 @@ both_longer a b c = by_test (nat_lt b c) refl
 fewer_before : (lines : List (List ℕ)) →
     nat_lt (length (concat (lines_before lines))) (length (concat lines)) ≡ list_any is_mark lines
 fewer_before [] = refl
-fewer_before (line ∷ lines) = by_test (is_mark line) refl
+fewer_before (line ∷ lines) = by_test (is_mark line) refl (fewer_before lines)
   where
     by_test : (b : Bool) → is_mark line ≡ b →
+        nat_lt (length (concat (lines_before lines))) (length (concat lines)) ≡ list_any is_mark lines →
         nat_lt (length (concat (cond b [] (line ∷ lines_before lines)))) (length (line ++ concat lines))
         ≡ (b || list_any is_mark lines)
-    by_test true h =
+    by_test true h rest =
         le-leb 1 (length (line ++ concat lines))
         (omega (arith, length-append line (concat lines), some_bytes line h))
-    by_test false h =
+    by_test false h rest =
         ap (λ n. nat_lt n (length (line ++ concat lines))) (length-append line (concat (lines_before lines)))
         ∙ ap (λ n. nat_lt (length line + length (concat (lines_before lines))) n) (length-append line (concat lines))
-        ∙ both_longer (length line) (length (concat (lines_before lines))) (length (concat lines)) ∙ fewer_before lines
+        ∙ both_longer (length line) (length (concat (lines_before lines))) (length (concat lines)) ∙ rest
 
 pub fewer : (input : List ℕ) → nat_lt (length (mission_bytes input)) (length input) ≡ has_mark input
 unfolding mission_bytes
@@ -49,11 +50,12 @@ fewer input =
 
 few_after : (lines : List (List ℕ)) → length (concat (lines_after lines)) ≤ length (concat lines)
 few_after [] = omega arith
-few_after (line ∷ lines) = by_test (is_mark line)
+few_after (line ∷ lines) = by_test (is_mark line) (few_after lines)
   where
-    by_test : (b : Bool) → length (concat (cond b lines (lines_after lines))) ≤ length (line ++ concat lines)
-    by_test true = omega (arith, length-append line (concat lines))
-    by_test false = omega (arith, length-append line (concat lines), few_after lines)
+    by_test : (b : Bool) → length (concat (lines_after lines)) ≤ length (concat lines) →
+        length (concat (cond b lines (lines_after lines))) ≤ length (line ++ concat lines)
+    by_test true rest = omega (arith, length-append line (concat lines))
+    by_test false rest = omega (arith, length-append line (concat lines), rest)
 
 pub no_more_after : (input : List ℕ) → length (trace_bytes input) ≤ length input
 unfolding trace_bytes
