@@ -1,8 +1,9 @@
-//! The program: a report on standard input, its picture on standard output.
+//! The program: a report on standard input, alone or after its mission, and its picture on standard output.
 #![tactic(auto)]
 
 use guards_base::{Text, Words};
 use guards_io::{StdSink, StdSource};
+use mission_check::Status;
 use picture_run::{PictureStatus, picture};
 use std::alloc::AllocError;
 use std::env;
@@ -33,7 +34,7 @@ fn main(rt: HostRuntime) -> ExitCode {
     let mut out = StdSink::new(rt.stdout());
     let status = match words(&rt) {
         Ok(words) => picture(rt.alloc(), &words, &mut src, &mut out),
-        Err(AllocError) => PictureStatus::NoMemory,
+        Err(AllocError) => PictureStatus::Ended(Status::NoMemory),
     };
     ExitCode::from(status.code())
 }

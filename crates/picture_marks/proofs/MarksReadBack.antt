@@ -1,10 +1,11 @@
 -- What is read back from the spans of a lane, and from those of several.
-use Rattle.std.proofs.Common.{◌≡◌, ℕ, zero, suc, ◌+◌, ◌<◌, ◌≤◌, Bool, true, false, cond, ◌&&◌, ◌||◌, List, [], ◌∷◌, ◌++◌, map, flat_map, get_or, refl, sym, ap, ◌∙◌, arith}
+use Rattle.std.proofs.Common.{◌≡◌, ℕ, zero, suc, ◌+◌, ◌<◌, ◌≤◌, Bool, true, false, cond, ◌&&◌, ◌||◌, List, [], ◌∷◌, ◌++◌, map, flat_map, get_or, Option, refl, sym, ap, ◌∙◌, arith}
 use Rattle.std.specs.Prelude.{nat_le, nat_lt}
 use Rattle.std.specs.List.{list_any}
 use Rattle.std.proofs.lemmas.Bool.{le-leb, leb-true}
 use Rattle.guards_model.proofs.BoolTests.{and_true, clear, differ, no_first, second_false}
 use Rattle.picture_marks.specs.declared.facts.CycleFacts.{CycleFacts}
+use Rattle.picture_marks.specs.declared.facts.Limits.{Limits}
 use Rattle.picture_marks.specs.declared.shown.Lane.{Lane}
 use Rattle.picture_marks.specs.declared.shown.Shown.{Shown}
 use Rattle.picture_marks.specs.declared.shown.Shown.TheVariants as shown
@@ -205,41 +206,41 @@ nothing_twice : (b : Bool) → cond b shown.Nothing shown.Nothing ≡ shown.Noth
 nothing_twice true = refl
 nothing_twice false = refl
 
-module _ (told : List CycleFacts) (l : Lane) (c : ℕ) where
+module _ (limits : Option Limits) (told : List CycleFacts) (l : Lane) (c : ℕ) where
   abbrev value : Shown
-  value = get_or (map (lane_shown_in l) told) c shown.Nothing
+  value = get_or (map (lane_shown_in limits l) told) c shown.Nothing
 
   own_read : (lane : Lane) (rest : List Mark) (known : Bool) → lane ≡ l →
-      shown_at rest l c ≡ cond known value shown.Nothing → shown_at (marks_in lane told ++ rest) l c ≡ value
-  own_read lane rest known is after = by_test (list_any (covers l c) (marks_in lane told)) refl
+      shown_at rest l c ≡ cond known value shown.Nothing → shown_at (marks_in limits lane told ++ rest) l c ≡ value
+  own_read lane rest known is after = by_test (list_any (covers l c) (marks_in limits lane told)) refl
     where
-      own : shown_at (marks_in lane told) l c ≡ value
-      own = ap (λ x. shown_at (marks_in x told) l c) is ∙ values_read l (map (lane_shown_in l) told) c
+      own : shown_at (marks_in limits lane told) l c ≡ value
+      own = ap (λ x. shown_at (marks_in limits x told) l c) is ∙ values_read l (map (lane_shown_in limits l) told) c
 
-      by_test : (b : Bool) → list_any (covers l c) (marks_in lane told) ≡ b →
-          shown_at (marks_in lane told ++ rest) l c ≡ value
-      by_test true h = some_here (marks_in lane told) rest l c h ∙ own
+      by_test : (b : Bool) → list_any (covers l c) (marks_in limits lane told) ≡ b →
+          shown_at (marks_in limits lane told ++ rest) l c ≡ value
+      by_test true h = some_here (marks_in limits lane told) rest l c h ∙ own
       by_test false h =
-          let empty : value ≡ shown.Nothing = sym own ∙ none_at (marks_in lane told) l c h in
-          none_here (marks_in lane told) rest l c h ∙ after ∙ ap (λ v. cond known v shown.Nothing) empty
+          let empty : value ≡ shown.Nothing = sym own ∙ none_at (marks_in limits lane told) l c h in
+          none_here (marks_in limits lane told) rest l c h ∙ after ∙ ap (λ v. cond known v shown.Nothing) empty
           ∙ nothing_twice known ∙ sym empty
 
   pub all_read : (lanes : List Lane) →
-      shown_at (flat_map (λ lane. marks_in lane told) lanes) l c
+      shown_at (flat_map (λ lane. marks_in limits lane told) lanes) l c
       ≡ cond (list_any (λ lane. same_lane lane l) lanes) value shown.Nothing
   all_read [] = refl
   all_read (lane ∷ lanes) = by_test (same_lane lane l) refl (all_read lanes)
     where
       by_test : (b : Bool) → same_lane lane l ≡ b →
-          shown_at (flat_map (λ lane. marks_in lane told) lanes) l c
+          shown_at (flat_map (λ lane. marks_in limits lane told) lanes) l c
           ≡ cond (list_any (λ lane. same_lane lane l) lanes) value shown.Nothing →
-          shown_at (marks_in lane told ++ flat_map (λ lane. marks_in lane told) lanes) l c
+          shown_at (marks_in limits lane told ++ flat_map (λ lane. marks_in limits lane told) lanes) l c
           ≡ cond (b || list_any (λ lane. same_lane lane l) lanes) value shown.Nothing
       by_test true h rest =
-          own_read lane (flat_map (λ lane. marks_in lane told) lanes) _ (same_lane_is lane l h) rest
+          own_read lane (flat_map (λ lane. marks_in limits lane told) lanes) _ (same_lane_is lane l h) rest
       by_test false h rest =
-          none_here (marks_in lane told) (flat_map (λ lane. marks_in lane told) lanes) l c
-          (others_of l lane (map (lane_shown_in lane) told) c h) ∙ rest
+          none_here (marks_in limits lane told) (flat_map (λ lane. marks_in limits lane told) lanes) l c
+          (others_of l lane (map (lane_shown_in limits lane) told) c h) ∙ rest
 
 -- ---- neighbours
 

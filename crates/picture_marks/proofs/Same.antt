@@ -22,7 +22,9 @@ of_look n w =
     (cond (n == 7) (shown.Joined (nat_abs w))
     (cond (n == 8) (shown.Dropped (nat_abs w))
     (cond (n == 9) (shown.Count (nat_abs w))
-    (cond (n == 10) (shown.Blocks (nat_abs w)) (shown.Vote w)))))))))))
+    (cond (n == 10) (shown.Blocks (nat_abs w))
+    (cond (n == 11) (shown.Vote w)
+    (cond (n == 12) (shown.Threshold (nat_abs w)) (shown.Final (nat_abs w))))))))))))))
 
 look_back : (v : Shown) → of_look (look v) (amount v) ≡ v
 look_back shown.Nothing = refl
@@ -37,6 +39,8 @@ look_back (shown.Dropped cycle) = refl
 look_back (shown.Count count) = refl
 look_back (shown.Blocks left) = refl
 look_back (shown.Vote word) = refl
+look_back (shown.Threshold count) = refl
+look_back (shown.Final blocks) = refl
 
 pub same_is : (v w : Shown) → same v w ≡ true → v ≡ w
 same_is v w e =
@@ -56,7 +60,9 @@ of_kind n k =
     (cond (n == 3) (lane.Removed k)
     (cond (n == 4) (lane.Joined k)
     (cond (n == 5) (lane.Dropped k)
-    (cond (n == 6) lane.Remaining (lane.Output k)))))))
+    (cond (n == 6) lane.Remaining
+    (cond (n == 7) (lane.Output k)
+    (cond (n == 8) (lane.Threshold k) lane.Final))))))))
 
 kind_back : (l : Lane) → of_kind (lane_kind l) (lane_place l) ≡ l
 kind_back (lane.State q) = refl
@@ -67,6 +73,8 @@ kind_back (lane.Joined q) = refl
 kind_back (lane.Dropped q) = refl
 kind_back lane.Remaining = refl
 kind_back (lane.Output k) = refl
+kind_back (lane.Threshold q) = refl
+kind_back lane.Final = refl
 
 pub same_lane_is : (a b : Lane) → same_lane a b ≡ true → a ≡ b
 same_lane_is a b e =

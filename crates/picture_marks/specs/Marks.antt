@@ -1,7 +1,8 @@
 -- The marks of a picture: the longest spans of cycles in which a lane shows the same.
-use Rattle.std.specs.Prelude.{ℕ, suc, List, [], ◌∷◌, ◌++◌, map, filter, flat_map, if◌then◌else◌}
+use Rattle.std.specs.Prelude.{ℕ, suc, Option, List, [], ◌∷◌, ◌++◌, map, filter, flat_map, if◌then◌else◌}
 use Rattle.guards_model.specs.Channels.{Channel, numbers_below}
 use Rattle.picture_marks.specs.declared.facts.CycleFacts.{CycleFacts}
+use Rattle.picture_marks.specs.declared.facts.Limits.{Limits}
 use Rattle.picture_marks.specs.declared.shown.Lane.{Lane}
 use Rattle.picture_marks.specs.declared.shown.Lane.TheVariants as lane
 use Rattle.picture_marks.specs.declared.shown.Shown.{Shown}
@@ -34,22 +35,24 @@ abbrev pub marks_drawn : List Mark → List Mark
 marks_drawn ms = filter (λ m. is_drawn m.shown) ms
 
 -- the spans of a lane, and those of them that are drawn
-abbrev pub spans_in : Lane → List CycleFacts → List Mark
-spans_in lane told = spans_of lane (map (lane_shown_in lane) told)
+abbrev pub spans_in : Option Limits → Lane → List CycleFacts → List Mark
+spans_in limits lane told = spans_of lane (map (lane_shown_in limits lane) told)
 
-abbrev pub marks_in : Lane → List CycleFacts → List Mark
-marks_in lane told = marks_drawn (spans_in lane told)
+abbrev pub marks_in : Option Limits → Lane → List CycleFacts → List Mark
+marks_in limits lane told = marks_drawn (spans_in limits lane told)
 
 -- the lanes of a channel
 abbrev pub channel_lanes : Channel → List Lane
 channel_lanes q =
-    lane.State q ∷ lane.Judged q ∷ lane.Count q ∷ lane.Removed q ∷ lane.Joined q ∷ lane.Dropped q ∷ []
+    lane.State q ∷ lane.Judged q ∷ lane.Count q ∷ lane.Threshold q ∷ lane.Removed q ∷ lane.Joined q ∷ lane.Dropped q
+    ∷ []
 
 -- the lanes of a picture, by how many channels and outputs there are
 abbrev pub lanes_of : ℕ → ℕ → List Lane
 lanes_of channels outputs =
-    flat_map channel_lanes (numbers_below channels) ++ lane.Remaining ∷ map (λ k. lane.Output k) (numbers_below outputs)
+    flat_map channel_lanes (numbers_below channels)
+    ++ lane.Remaining ∷ lane.Final ∷ map (λ k. lane.Output k) (numbers_below outputs)
 
--- the marks of a picture
-abbrev pub marks_of : ℕ → ℕ → List CycleFacts → List Mark
-marks_of channels outputs told = flat_map (λ lane. marks_in lane told) (lanes_of channels outputs)
+-- the marks of a picture, with the limits of the mission where that is known
+abbrev pub marks_of : Option Limits → ℕ → ℕ → List CycleFacts → List Mark
+marks_of limits channels outputs told = flat_map (λ lane. marks_in limits lane told) (lanes_of channels outputs)

@@ -1,7 +1,8 @@
 -- What the marks of a picture tell, read from them alone.
-use Rattle.std.specs.Prelude.{◌≡◌, ◌<◌, ℕ, Bool, false, ◌&&◌, nat_le, nat_lt, List, [], ◌∷◌, map, get_or, if◌then◌else◌}
+use Rattle.std.specs.Prelude.{◌≡◌, ◌<◌, ℕ, Bool, false, ◌&&◌, nat_le, nat_lt, List, [], ◌∷◌, map, get_or, Option, if◌then◌else◌}
 use Rattle.std.specs.List.{list_any}
 use Rattle.picture_marks.specs.declared.facts.CycleFacts.{CycleFacts}
+use Rattle.picture_marks.specs.declared.facts.Limits.{Limits}
 use Rattle.picture_marks.specs.declared.shown.Lane.{Lane}
 use Rattle.picture_marks.specs.declared.shown.Shown.{Shown}
 use Rattle.picture_marks.specs.declared.shown.Shown.TheVariants as shown
@@ -18,11 +19,12 @@ abbrev pub shown_at : List Mark → Lane → ℕ → Shown
 shown_at [] lane c = shown.Nothing
 shown_at (m ∷ ms) lane c = if covers lane c m then m.shown else shown_at ms lane c
 
--- what was told of a lane in a cycle: nothing where the picture has no such lane, or the cycle was not told
-abbrev pub told_at : ℕ → ℕ → List CycleFacts → Lane → ℕ → Shown
-told_at channels outputs told lane c =
+-- what was told of a lane in a cycle, by the report or with the mission: nothing where the picture has no such lane, or
+-- the cycle was not told
+abbrev pub told_at : Option Limits → ℕ → ℕ → List CycleFacts → Lane → ℕ → Shown
+told_at limits channels outputs told lane c =
     if list_any (λ l. same_lane l lane) (lanes_of channels outputs)
-    then get_or (map (lane_shown_in lane) told) c shown.Nothing
+    then get_or (map (lane_shown_in limits lane) told) c shown.Nothing
     else shown.Nothing
 
 -- Spans follow on one another from a cycle on, each has a cycle, and no two neighbours show the same.

@@ -3,6 +3,7 @@ use Rattle.std.specs.Prelude.{ℕ, ◌==◌, Bool, true, false, not, ◌&&◌, �
 use Rattle.std.specs.Ordering.{int_eq}
 use Rattle.guards_model.specs.Channels.{Channel, ChannelSet, has, place_or}
 use Rattle.picture_marks.specs.declared.facts.CycleFacts.{CycleFacts}
+use Rattle.picture_marks.specs.declared.facts.Limits.{Limits}
 use Rattle.picture_marks.specs.declared.shown.Lane.{Lane}
 use Rattle.picture_marks.specs.declared.shown.Lane.TheVariants as lane
 use Rattle.picture_marks.specs.declared.shown.Shown.{Shown}
@@ -23,6 +24,11 @@ state_shown_in f q =
 abbrev pub count_in : CycleFacts → Channel → Shown
 count_in f q = if length f.ran == 0 then shown.Nothing else shown.Count (place_or f.counts q 0)
 
+-- the count at which it is removed, where the mission is known and the cycle has lines
+abbrev pub threshold_in : Option Limits → CycleFacts → Shown
+threshold_in None f = shown.Nothing
+threshold_in (Some l) f = if length f.ran == 0 then shown.Nothing else shown.Threshold l.threshold
+
 abbrev pub cast : Option ℤ → Shown
 cast None = shown.Nothing
 cast (Some w) = shown.Vote w
@@ -34,6 +40,11 @@ vote_in f k = if length f.ran == 0 then shown.Nothing else cast (place_or f.vote
 abbrev pub blocks_shown : Option ℕ → Shown
 blocks_shown None = shown.Nothing
 blocks_shown (Some left) = shown.Blocks left
+
+-- how many blocks a final frame may carry, where the mission is known and a transfer runs
+abbrev pub final_in : Option Limits → Option ℕ → Shown
+final_in (Some l) (Some left) = shown.Final l.last
+final_in _ _ = shown.Nothing
 
 -- a target of the transfer that started then
 abbrev pub is_target_shown : Option (ChannelSet × ℕ) → ℕ → Channel → Bool
@@ -49,16 +60,18 @@ dropped_from (Some t) f q = has t.0 q && (not (has f.arrived q) && not (is_targe
 abbrev pub is_dropped : CycleFacts → Channel → Bool
 is_dropped f q = dropped_from f.before f q
 
--- what a lane shows of a cycle
-abbrev pub lane_shown_in : Lane → CycleFacts → Shown
-lane_shown_in (lane.State q) f = state_shown_in f q
-lane_shown_in (lane.Judged q) f = if has f.judged q then shown.Judged else shown.Nothing
-lane_shown_in (lane.Count q) f = count_in f q
-lane_shown_in (lane.Removed q) f = if has f.removed q then shown.Removed f.cycle else shown.Nothing
-lane_shown_in (lane.Joined q) f = if has f.joined q then shown.Joined f.cycle else shown.Nothing
-lane_shown_in (lane.Dropped q) f = if is_dropped f q then shown.Dropped f.cycle else shown.Nothing
-lane_shown_in lane.Remaining f = blocks_shown f.remaining
-lane_shown_in (lane.Output k) f = vote_in f k
+-- what a lane shows of a cycle, with the limits of the mission where that is known
+abbrev pub lane_shown_in : Option Limits → Lane → CycleFacts → Shown
+lane_shown_in limits (lane.State q) f = state_shown_in f q
+lane_shown_in limits (lane.Judged q) f = if has f.judged q then shown.Judged else shown.Nothing
+lane_shown_in limits (lane.Count q) f = count_in f q
+lane_shown_in limits (lane.Threshold q) f = threshold_in limits f
+lane_shown_in limits (lane.Removed q) f = if has f.removed q then shown.Removed f.cycle else shown.Nothing
+lane_shown_in limits (lane.Joined q) f = if has f.joined q then shown.Joined f.cycle else shown.Nothing
+lane_shown_in limits (lane.Dropped q) f = if is_dropped f q then shown.Dropped f.cycle else shown.Nothing
+lane_shown_in limits lane.Remaining f = blocks_shown f.remaining
+lane_shown_in limits lane.Final f = final_in limits f.remaining
+lane_shown_in limits (lane.Output k) f = vote_in f k
 
 -- ---- whether two show the same: they look alike and have the same amount
 
@@ -75,6 +88,8 @@ look (shown.Dropped cycle) = 8
 look (shown.Count count) = 9
 look (shown.Blocks left) = 10
 look (shown.Vote word) = 11
+look (shown.Threshold count) = 12
+look (shown.Final blocks) = 13
 
 abbrev pub amount : Shown → ℤ
 amount shown.Nothing = pos 0
@@ -89,6 +104,8 @@ amount (shown.Dropped cycle) = pos cycle
 amount (shown.Count count) = pos count
 amount (shown.Blocks left) = pos left
 amount (shown.Vote word) = word
+amount (shown.Threshold count) = pos count
+amount (shown.Final blocks) = pos blocks
 
 abbrev pub same : Shown → Shown → Bool
 same a b = look a == look b && int_eq (amount a) (amount b)
@@ -109,6 +126,8 @@ lane_kind (lane.Joined q) = 4
 lane_kind (lane.Dropped q) = 5
 lane_kind lane.Remaining = 6
 lane_kind (lane.Output k) = 7
+lane_kind (lane.Threshold q) = 8
+lane_kind lane.Final = 9
 
 abbrev pub lane_place : Lane → ℕ
 lane_place (lane.State q) = q
@@ -119,6 +138,8 @@ lane_place (lane.Joined q) = q
 lane_place (lane.Dropped q) = q
 lane_place lane.Remaining = 0
 lane_place (lane.Output k) = k
+lane_place (lane.Threshold q) = q
+lane_place lane.Final = 0
 
 abbrev pub same_lane : Lane → Lane → Bool
 same_lane a b = lane_kind a == lane_kind b && lane_place a == lane_place b

@@ -1,6 +1,15 @@
 //! What a report tells of a run, as far as a picture shows it.
 use guards_base::{ChanSet, Slot};
 
+/// What a mission adds to the picture of its report: the lines that its counts and its transfers are held against.
+#[derive(Clone, Copy, Debug)]
+pub struct Limits {
+    /// The count at which a channel is removed.
+    pub threshold: u32,
+    /// How many blocks a final frame may carry.
+    pub last: u8,
+}
+
 /// What is told of a cycle. The judgement, the counts and the votes are those of the channels that have a line, which
 /// all say the same; where none has, nothing is told of them.
 #[derive(Clone, Copy)]

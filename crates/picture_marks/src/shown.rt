@@ -2,9 +2,9 @@
 ghost use Rattle.std.specs.Prelude.{◌≡◌, None, if◌then◌else◌};
 ghost use Rattle.guards_model.specs.Channels.{has, place_or};
 ghost use Rattle.picture_marks.specs.declared.shown.Shown.TheVariants as shown;
-ghost use Rattle.picture_marks.specs.Shown.{amount, blocks_shown, is_drawn, is_dropped, is_target_shown, look, passive_state, same, lane_shown_in, state_shown_in, count_in, vote_in};
+ghost use Rattle.picture_marks.specs.Shown.{amount, blocks_shown, is_drawn, is_dropped, is_target_shown, look, passive_state, same, lane_shown_in, state_shown_in, count_in, vote_in, threshold_in, final_in};
 
-use crate::facts::CycleFacts;
+use crate::facts::{CycleFacts, Limits};
 use guards_base::{Chan, ChanSet};
 
 /// A lane of the picture: one thing that is shown of a channel, of the transfer, or of an output.
@@ -13,10 +13,12 @@ pub enum Lane {
     State { channel: u8 },
     Judged { channel: u8 },
     Count { channel: u8 },
+    Threshold { channel: u8 },
     Removed { channel: u8 },
     Joined { channel: u8 },
     Dropped { channel: u8 },
     Remaining,
+    Final,
     Output { place: u8 },
 }
 
@@ -42,8 +44,12 @@ pub enum Shown {
     Dropped { cycle: u32 },
     /// The errors that are counted against it.
     Count { count: u32 },
+    /// The count at which it is removed.
+    Threshold { count: u32 },
     /// How many blocks of the transfer remain.
     Blocks { left: u16 },
+    /// How many blocks the final frame of a transfer may carry.
+    Final { blocks: u8 },
     /// The word that is voted for.
     Vote { word: i64 },
 }
@@ -73,6 +79,8 @@ fn look(shown: Shown) -> u8
         Shown::Count { .. } => 9,
         Shown::Blocks { .. } => 10,
         Shown::Vote { .. } => 11,
+        Shown::Threshold { .. } => 12,
+        Shown::Final { .. } => 13,
     }
 }
 
@@ -86,6 +94,8 @@ fn amount(shown: Shown) -> i64
         Shown::Dropped { cycle } => i64::from(cycle),
         Shown::Count { count } => i64::from(count),
         Shown::Blocks { left } => i64::from(left),
+        Shown::Threshold { count } => i64::from(count),
+        Shown::Final { blocks } => i64::from(blocks),
         Shown::Vote { word } => word,
         _ => 0,
     }
@@ -167,6 +177,31 @@ fn count_in(facts: &CycleFacts, channel: u8) -> Shown
     }
 }
 
+fn threshold_in(limits: Option<Limits>, facts: &CycleFacts) -> Shown
+    ensures { result ≡ threshold_in limits facts.now }
+{
+    let Some(limits) = limits else {
+        return Shown::Nothing;
+    };
+    if facts.ran.count() == 0 {
+        return Shown::Nothing;
+    }
+    Shown::Threshold {
+        count: limits.threshold,
+    }
+}
+
+fn final_in(limits: Option<Limits>, remaining: Option<u16>) -> Shown
+    ensures { result ≡ final_in limits remaining }
+{
+    match (limits, remaining) {
+        (Some(limits), Some(_)) => Shown::Final {
+            blocks: limits.last,
+        },
+        _ => Shown::Nothing,
+    }
+}
+
 fn vote_at(votes: &[Option<i64>; 8], place: u8) -> Option<i64>
     ensures { result ≡ place_or votes.now place None }
 {
@@ -228,21 +263,23 @@ fn blocks_in(remaining: Option<u16>) -> Shown
     }
 }
 
-/// What a lane shows of a cycle.
-pub(crate) fn shown_in(lane: Lane, facts: &CycleFacts) -> Shown
-    ensures { result ≡ lane_shown_in lane facts.now }
+/// What a lane shows of a cycle, with the limits of its mission where that is known.
+pub(crate) fn shown_in(limits: Option<Limits>, lane: Lane, facts: &CycleFacts) -> Shown
+    ensures { result ≡ lane_shown_in limits lane facts.now }
 {
     let cycle = facts.cycle;
     match lane {
         Lane::State { channel } => state_in(facts, channel),
         Lane::Judged { channel } => if_holds(has(facts.judged, channel), Shown::Judged),
         Lane::Count { channel } => count_in(facts, channel),
+        Lane::Threshold { .. } => threshold_in(limits, facts),
         Lane::Removed { channel } => {
             if_holds(has(facts.removed, channel), Shown::Removed { cycle })
         }
         Lane::Joined { channel } => if_holds(has(facts.joined, channel), Shown::Joined { cycle }),
         Lane::Dropped { channel } => if_holds(is_dropped(facts, channel), Shown::Dropped { cycle }),
         Lane::Remaining => blocks_in(facts.remaining),
+        Lane::Final => final_in(limits, facts.remaining),
         Lane::Output { place } => vote_in(facts, place),
     }
 }

@@ -5,7 +5,7 @@ ghost use Rattle.picture_marks.specs.declared.shown.Lane.TheVariants as lane;
 ghost use Rattle.picture_marks.specs.Shown.{is_drawn, lane_shown_in};
 ghost use Rattle.picture_marks.specs.Marks.{channel_lanes, marks_drawn, first_mark, lanes_of, longer_span, marks_in, marks_of, next_mark, spans_on};
 
-use crate::facts::CycleFacts;
+use crate::facts::{CycleFacts, Limits};
 use crate::shown::{Lane, Mark, Shown, is_drawn, same, shown_in};
 use std::alloc::{AllocError, Global};
 
@@ -59,17 +59,18 @@ fn first_mark(lane: Lane, shown: Shown) -> Mark
 /// Appends the spans from a mark on, by what is told of the cycles after it.
 fn push_spans(
     marks: &mut Vec<Mark>,
+    limits: Option<Limits>,
     lane: Lane,
     first: Mark,
     told: &[CycleFacts],
 ) -> Result<(), AllocError>
     requires { first.past + length told.now < 2 ^ 32 }
     ensures { OnOk result (marks.new.items
-        ≡ marks.old.items ++ marks_drawn (spans_on first (map (lane_shown_in lane) told.now))) }
+        ≡ marks.old.items ++ marks_drawn (spans_on first (map (lane_shown_in limits lane) told.now))) }
 {
     let mut open = first;
     for facts in told {
-        let now = shown_in(lane, facts);
+        let now = shown_in(limits, lane, facts);
         let past = open.past + 1;
         if same(open.shown, now) {
             open = longer(open, past);
@@ -83,14 +84,20 @@ fn push_spans(
 }
 
 /// Appends the marks of a lane.
-fn push_lane(marks: &mut Vec<Mark>, lane: Lane, told: &[CycleFacts]) -> Result<(), AllocError>
+fn push_lane(
+    marks: &mut Vec<Mark>,
+    limits: Option<Limits>,
+    lane: Lane,
+    told: &[CycleFacts],
+) -> Result<(), AllocError>
     requires { length told.now < 2 ^ 32 }
-    ensures { OnOk result (marks.new.items ≡ marks.old.items ++ marks_in lane told.now) }
+    ensures { OnOk result (marks.new.items ≡ marks.old.items ++ marks_in limits lane told.now) }
 {
     let Some((first, rest)) = told.split_first() else {
         return Ok(());
     };
-    push_spans(marks, lane, first_mark(lane, shown_in(lane, first)), rest)
+    let first = first_mark(lane, shown_in(limits, lane, first));
+    push_spans(marks, limits, lane, first, rest)
 }
 
 /// Appends the lanes of a channel.
@@ -100,6 +107,7 @@ fn push_channel(lanes: &mut Vec<Lane>, channel: u8) -> Result<(), AllocError>
     lanes.push(Lane::State { channel })?;
     lanes.push(Lane::Judged { channel })?;
     lanes.push(Lane::Count { channel })?;
+    lanes.push(Lane::Threshold { channel })?;
     lanes.push(Lane::Removed { channel })?;
     lanes.push(Lane::Joined { channel })?;
     lanes.push(Lane::Dropped { channel })?;
@@ -133,6 +141,7 @@ fn lanes(alloc: Global, channels: u8, outputs: u8) -> Result<Vec<Lane>, AllocErr
 {
     let mut lanes = channel_lanes(alloc, channels)?;
     lanes.push(Lane::Remaining)?;
+    lanes.push(Lane::Final)?;
     for place in 0..outputs {
         push_output(&mut lanes, place)?;
     }
@@ -142,30 +151,33 @@ fn lanes(alloc: Global, channels: u8, outputs: u8) -> Result<Vec<Lane>, AllocErr
 /// The marks of some lanes, one lane after the other.
 fn marks_of_lanes(
     alloc: Global,
+    limits: Option<Limits>,
     lanes: &[Lane],
     told: &[CycleFacts],
 ) -> Result<Vec<Mark>, AllocError>
     requires { length told.now < 2 ^ 32 }
-    ensures { IfOk result (λ marks. marks.items ≡ flat_map (λ lane. marks_in lane told.now) lanes.now) }
+    ensures { IfOk result (λ marks. marks.items ≡ flat_map (λ lane. marks_in limits lane told.now) lanes.now) }
 {
     let mut marks = Vec::new(alloc);
     for lane in lanes {
-        push_lane(&mut marks, *lane, told)?;
+        push_lane(&mut marks, limits, *lane, told)?;
     }
     Ok(marks)
 }
 
-/// The marks of a picture of so many channels and outputs, by what was told of each cycle.
+/// The marks of a picture of so many channels and outputs, by what was told of each cycle, and with the limits of the
+/// mission where that is known.
 pub fn marks(
     alloc: Global,
+    limits: Option<Limits>,
     channels: u8,
     outputs: u8,
     told: &[CycleFacts],
 ) -> Result<Vec<Mark>, AllocError>
     requires channels { channels ≤ 7 }
     requires told { length told.now < 2 ^ 32 }
-    ensures { IfOk result (λ marks. marks.items ≡ marks_of channels outputs told.now) }
+    ensures { IfOk result (λ marks. marks.items ≡ marks_of limits channels outputs told.now) }
 {
     let lanes = lanes(alloc, channels, outputs)?;
-    marks_of_lanes(alloc, &lanes, told)
+    marks_of_lanes(alloc, limits, &lanes, told)
 }

@@ -74,6 +74,46 @@ pub const RESTORED_COUNTS: &str = "3 <use href='#removed' x=
 2 <rect class='void' x=
 1 <text class='name' x='2000' y='9750'>channel 0</text>";
 
+/// A mission whose reports have the sizes of that report.
+pub const MISSION: &str = "outputs = [\"b0.0\"]
+table = [[\"count\"]]
+sensors = [[[5], [5], [5], [5], [5]]]
+[core]
+channels = 5
+cycles = 7
+blocks = 8
+width = 1
+threshold = 131072
+final = 2
+[[task]]
+name = \"count\"
+writes = [{ block = 0, w0 = \"b0.0 + 1\" }]
+";
+
+/// What the picture says besides with that mission before the report.
+pub const LIMIT_TITLES: &str = "channel 0 has a threshold of 131072/65536, cycles 0 to 4
+channel 4 has a threshold of 131072/65536, cycles 0 to 4
+the transfer has room for 2 blocks in a final frame, cycles 1 to 3";
+
+/// The elements of that picture: a threshold for each channel, a final frame, and one in the legend. The counts are as
+/// high as the threshold at most, and 3 blocks are as high as their row.
+pub const LIMIT_COUNTS: &str = "7 <rect class='limit' x=
+1 <rect class='limit' x='12800' y='10450' width='72570' height='100'>
+1 <rect class='limit' x='27314' y='32150' width='43542' height='100'>
+1 >threshold 131072/65536, final frame 2 blocks</text>";
+
+/// The same with a threshold of 6553600: it is more than four times as high as any count.
+pub const FAR_COUNTS: &str = "2 <rect class='limit' x=
+1 >threshold 6553600/65536 (above the bars), final frame 2 blocks</text>";
+
+/// Changes of the mission, and what is told then.
+pub const MISSION_CHANGES: &str = "[core]|[core|mission: not-toml -
+channels = 5|channels = 2|mission: out-of-range core.channels
+final = 2|last = 2|mission: unknown core
+cycles = 7|cycles = 8|report: line 1
+outputs = [\"b0.0\"]|outputs = [\"b0.0\", \"b0.1\"]|report: line 3
+writes = [{ block = 0, w0 = \"b0.0 + 1\" }]|writes = [{ block = 0 }]|mission: missing task[0].writes[0]";
+
 /// Three channels, two cycles, two outputs.
 pub const QUIET: &str = "guards channels 3 cycles 2
 cycle 0 active 0,1,2 transfer -

@@ -13,7 +13,7 @@ pub struct Call<'a> {
     /// The words after the program's name, with spaces between them.
     pub words: &'a str,
     /// What the source gives.
-    pub report: &'a str,
+    pub input: &'a str,
     /// How many bytes the source gives, and the sink takes, at once.
     pub step: usize,
     /// The calls of the source that fail, by their numbers from 0.
@@ -37,11 +37,16 @@ impl Ended {
     }
 }
 
+/// A mission and its report as one input.
+pub fn stream(alloc: Global, mission: &str, report: &str) -> Result<String, AllocError> {
+    format!(in alloc; "{mission}--- trace\n{report}")
+}
+
 /// A call with no words over a source that gives all at once and a sink that takes all at once.
-pub fn smooth<'a>(report: &'a str) -> Call<'a> {
+pub fn smooth<'a>(input: &'a str) -> Call<'a> {
     Call {
         words: "",
-        report,
+        input,
         step: ROOM,
         failing_reads: &[],
         failing_writes: &[],
@@ -59,7 +64,7 @@ fn words_of(alloc: Global, line: &str) -> Result<Words, AllocError> {
 /// Makes a call of the program.
 pub fn drawn(alloc: Global, call: &Call) -> Result<Ended, AllocError> {
     let words = words_of(alloc, call.words)?;
-    let bytes = Bytes::from_slice(alloc, call.report.as_bytes())?;
+    let bytes = Bytes::from_slice(alloc, call.input.as_bytes())?;
     let failing_reads = Numbers::from_slice(alloc, call.failing_reads)?;
     let failing_writes = Numbers::from_slice(alloc, call.failing_writes)?;
     let mut src = MemSource::new(bytes, call.step.max(1), failing_reads);

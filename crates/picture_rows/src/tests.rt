@@ -1,5 +1,8 @@
-use crate::reports::{CHANGES, QUIET, RESTORED, RESTORED_COUNTS, RESTORED_TITLES};
-use crate::stage::{drawn, smooth};
+use crate::reports::{
+    CHANGES, FAR_COUNTS, LIMIT_COUNTS, LIMIT_TITLES, MISSION, MISSION_CHANGES, QUIET, RESTORED,
+    RESTORED_COUNTS, RESTORED_TITLES,
+};
+use crate::stage::{drawn, smooth, stream};
 use std::alloc::{AllocError, Global};
 use std::test::Fail;
 
@@ -50,6 +53,52 @@ fn a_picture_says_what_its_report_told(rt: HostRuntime) -> Result<(), Fail> {
     assert_eq!(rt; others.as_str(), "");
     assert!(rt; ended.text.as_str().starts_with("<svg "));
     assert!(rt; ended.text.as_str().ends_with("</svg>\n"));
+    Ok(())
+}
+
+#[test]
+fn a_mission_adds_its_limits(rt: HostRuntime) -> Result<(), Fail> {
+    let alloc = rt.alloc();
+    let ended = drawn(alloc, &smooth(&stream(alloc, MISSION, RESTORED)?))?;
+    assert_eq!(rt; ended.status, 0);
+    let lacking = untold(alloc, RESTORED_TITLES, &ended.text)?;
+    assert_eq!(rt; lacking.as_str(), "");
+    let lacking = untold(alloc, LIMIT_TITLES, &ended.text)?;
+    assert_eq!(rt; lacking.as_str(), "");
+    let others = miscounted(alloc, LIMIT_COUNTS, &ended.text)?;
+    assert_eq!(rt; others.as_str(), "");
+    let far = MISSION.replacen(alloc, "131072", "6553600", 1)?;
+    let ended = drawn(alloc, &smooth(&stream(alloc, &far, RESTORED)?))?;
+    let others = miscounted(alloc, FAR_COUNTS, &ended.text)?;
+    assert_eq!(rt; others.as_str(), "");
+    Ok(())
+}
+
+// A mission in which a text stands for another, before the report, and the answer to it.
+fn is_refused_so(alloc: Global, row: &str) -> Result<bool, AllocError> {
+    let Some((old, change)) = row.split_once('|') else {
+        return Ok(false);
+    };
+    let Some((new, line)) = change.split_once('|') else {
+        return Ok(false);
+    };
+    let mission = MISSION.replacen(alloc, old, new, 1)?;
+    let ended = drawn(alloc, &smooth(&stream(alloc, &mission, RESTORED)?))?;
+    let told = format!(in alloc; "{line}\n")?;
+    Ok(ended.is(3, &told))
+}
+
+#[test]
+fn a_mission_that_is_none_or_does_not_fit_is_told(rt: HostRuntime) -> Result<(), Fail> {
+    let alloc = rt.alloc();
+    for row in MISSION_CHANGES.lines() {
+        assert!(rt; is_refused_so(alloc, row)?, "{row}");
+    }
+    assert!(rt; drawn(alloc, &smooth("--- trace"))?.is(3, "mission: missing core\n"));
+    let unreported = stream(alloc, MISSION, "")?;
+    assert!(rt; drawn(alloc, &smooth(&unreported))?.is(3, "report: line 1\n"));
+    let long = stream(alloc, &"# ".repeat(alloc, 131_073)?, RESTORED)?;
+    assert!(rt; drawn(alloc, &smooth(&long))?.is(4, "mission: too long\n"));
     Ok(())
 }
 

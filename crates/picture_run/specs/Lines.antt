@@ -1,12 +1,9 @@
--- The lines of refusals.
+-- The lines of refusals of a report.
 use Rattle.std.specs.Prelude.{ℕ, List, ◌++◌, codes}
 use Rattle.std.specs.Fmt.{decimal}
 
 unfoldable pub picture_usage : List ℕ
 picture_usage = codes "usage: guards_picture < REPORT\n"
-
-unfoldable pub fault_line : List ℕ
-fault_line = codes "read fault\n"
 
 unfoldable pub long_report_line : List ℕ
 long_report_line = codes "report: too long\n"

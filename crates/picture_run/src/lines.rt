@@ -1,6 +1,6 @@
 //! The lines of refusals.
 ghost use Rattle.std.specs.Prelude.{◌≡◌, string_bytes, IfOk};
-ghost use Rattle.picture_run.specs.Lines.{bad_line, fault_line, long_report_line, picture_usage};
+ghost use Rattle.picture_run.specs.Lines.{bad_line, long_report_line, picture_usage};
 
 use std::alloc::{AllocError, Global};
 
@@ -12,17 +12,9 @@ pub(crate) fn usage_line() -> &'static str
     "usage: guards_picture < REPORT\n"
 }
 
-/// The line of a source that failed.
-#[tactic(auto, unfolding(crate::specs::Lines::fault_line))]
-pub(crate) fn fault_line() -> &'static str
-    ensures { result.now ≡ fault_line }
-{
-    "read fault\n"
-}
-
 /// The line of too many bytes.
 #[tactic(auto, unfolding(crate::specs::Lines::long_report_line))]
-pub(crate) fn long_line() -> &'static str
+pub(crate) fn long_report_line() -> &'static str
     ensures { result.now ≡ long_report_line }
 {
     "report: too long\n"

@@ -2,20 +2,19 @@
 ghost use Rattle.std.specs.Prelude.{◌≡◌};
 ghost use Rattle.picture_run.specs.Drawing.{picture_code};
 
-/// The most bytes that are read.
-pub const LIMIT: usize = 16_777_216;
+use mission_check::Status;
+
+/// The most bytes that are read: of a mission and its report together.
+pub const MAX_INPUT_BYTES: usize = 16_777_216;
 
 /// What came of drawing a report.
-#[derive(Clone, Copy, Debug, PartialEq, Eq)]
+#[derive(Debug, Drop)]
 pub enum PictureStatus {
-    Done,
-    Usage,
-    /// This line, from 1, may not come where it stands; or the report has none.
+    /// This line, from 1, may not come where it stands, or does not fit the mission; or the report has none.
     BadReport(u32),
-    TooLong,
-    ReadFault,
-    WriteFault,
-    NoMemory,
+    /// As `guards` ends: the picture was written, or there are words, the bytes before the report are no mission, there
+    /// are too many bytes, the source or the sink failed, or memory ran out.
+    Ended(Status),
 }
 
 impl PictureStatus {
@@ -24,13 +23,8 @@ impl PictureStatus {
         ensures { result ≡ picture_code self.now }
     {
         match self {
-            PictureStatus::Done => 0,
-            PictureStatus::Usage => 2,
             PictureStatus::BadReport(_) => 3,
-            PictureStatus::TooLong => 4,
-            PictureStatus::ReadFault => 5,
-            PictureStatus::WriteFault => 6,
-            PictureStatus::NoMemory => 8,
+            PictureStatus::Ended(status) => status.code(),
         }
     }
 }

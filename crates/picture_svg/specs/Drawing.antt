@@ -1,5 +1,5 @@
 -- What a mark looks like, where it stands, and what it says.
-use Rattle.std.specs.Prelude.{ℕ, ◌+◌, ◌-◌, ◌*◌, ◌==◌, Bool, true, false, List, ◌++◌, get_or, codes, Option, None, if◌then◌else◌}
+use Rattle.std.specs.Prelude.{ℕ, ◌+◌, ◌-◌, ◌*◌, ◌==◌, nat_lt, Bool, true, false, List, [], ◌++◌, get_or, codes, Option, None, if◌then◌else◌}
 use Rattle.std.specs.Fmt.{decimal, signed_decimal}
 use Rattle.guards_model.specs.Texts.{TextValue}
 use Rattle.svg_text.specs.Pieces.{rect_text, svg_sign_text}
@@ -25,7 +25,9 @@ class_of (shown.Removed cycle) = codes "removed"
 class_of (shown.Joined cycle) = codes "joined"
 class_of (shown.Dropped cycle) = codes "dropped"
 class_of (shown.Count count) = codes "count"
+class_of (shown.Threshold count) = codes "limit"
 class_of (shown.Blocks left) = codes "left"
+class_of (shown.Final blocks) = codes "limit"
 class_of (shown.Vote word) = codes "vote"
 
 -- ---- what it says
@@ -34,10 +36,12 @@ unfoldable pub subject_text : Lane → TextValue
 subject_text (lane.State q) = codes "channel " ++ decimal q
 subject_text (lane.Judged q) = codes "channel " ++ decimal q
 subject_text (lane.Count q) = codes "channel " ++ decimal q
+subject_text (lane.Threshold q) = codes "channel " ++ decimal q
 subject_text (lane.Removed q) = codes "channel " ++ decimal q
 subject_text (lane.Joined q) = codes "channel " ++ decimal q
 subject_text (lane.Dropped q) = codes "channel " ++ decimal q
 subject_text lane.Remaining = codes "the transfer"
+subject_text lane.Final = codes "the transfer"
 subject_text (lane.Output k) = codes "output " ++ decimal k
 
 unfoldable pub mark_words : Shown → TextValue
@@ -51,7 +55,9 @@ mark_words (shown.Removed cycle) = codes "is removed at the end of cycle " ++ de
 mark_words (shown.Joined cycle) = codes "joins at the end of cycle " ++ decimal cycle
 mark_words (shown.Dropped cycle) = codes "is dropped from the transfer before cycle " ++ decimal cycle
 mark_words (shown.Count count) = codes "has a count of " ++ decimal count ++ codes "/65536"
+mark_words (shown.Threshold count) = codes "has a threshold of " ++ decimal count ++ codes "/65536"
 mark_words (shown.Blocks left) = codes "has " ++ decimal left ++ codes " blocks left"
+mark_words (shown.Final blocks) = codes "has room for " ++ decimal blocks ++ codes " blocks in a final frame"
 mark_words (shown.Vote word) = codes "is " ++ signed_decimal word
 
 unfoldable pub when_text : ℕ → ℕ → TextValue
@@ -63,21 +69,24 @@ when_text first past =
 unfoldable pub title_of : Mark → TextValue
 title_of m = subject_text m.lane ++ codes " " ++ mark_words m.shown ++ codes ", " ++ when_text m.first m.past
 
--- ---- where it stands: the foot of its bar in its row, and the bar's height
+-- ---- where it stands: the foot of its bar in its row, and the bar's height. A limit stands across its row, in the
+-- middle as high as a bar of its number is.
 
-abbrev pub foot_of : Shown → ℕ
-foot_of shown.Nothing = 0
-foot_of shown.Runs = 1500
-foot_of shown.Silent = 1500
-foot_of shown.Off = 850
-foot_of shown.Judged = 1500
-foot_of (shown.Restored start) = 1500
-foot_of (shown.Removed cycle) = 750
-foot_of (shown.Joined cycle) = 750
-foot_of (shown.Dropped cycle) = 750
-foot_of (shown.Count count) = 3500
-foot_of (shown.Blocks left) = 3200
-foot_of (shown.Vote word) = 3000
+abbrev pub foot_of : Sheet → Shown → ℕ
+foot_of s shown.Nothing = 0
+foot_of s shown.Runs = 1500
+foot_of s shown.Silent = 1500
+foot_of s shown.Off = 850
+foot_of s shown.Judged = 1500
+foot_of s (shown.Restored start) = 1500
+foot_of s (shown.Removed cycle) = 750
+foot_of s (shown.Joined cycle) = 750
+foot_of s (shown.Dropped cycle) = 750
+foot_of s (shown.Count count) = 3500
+foot_of s (shown.Threshold count) = 3550 - scaled count s.most_counted 1600
+foot_of s (shown.Blocks left) = 3200
+foot_of s (shown.Final blocks) = 3250 - scaled blocks s.most_left 3000
+foot_of s (shown.Vote word) = 3000
 
 abbrev pub output_of : Lane → ℕ
 output_of (lane.Output k) = k
@@ -94,7 +103,9 @@ height_of s scales lane (shown.Removed cycle) = 0
 height_of s scales lane (shown.Joined cycle) = 0
 height_of s scales lane (shown.Dropped cycle) = 0
 height_of s scales lane (shown.Count count) = scaled count s.most_counted 1600
+height_of s scales lane (shown.Threshold count) = 100
 height_of s scales lane (shown.Blocks left) = scaled left s.most_left 3000
+height_of s scales lane (shown.Final blocks) = 100
 height_of s scales lane (shown.Vote word) = word_height (get_or scales (output_of lane) None) word + 200
 
 -- a removal and a join are signs at the end of their cycle, and that a target was dropped is one where its cycle
@@ -110,22 +121,29 @@ sign_cycle (shown.Dropped cycle) m = m.first
 sign_cycle _ m = m.past
 
 abbrev pub sign_corner : Sheet → Mark → Corner
-sign_corner s m = record { x = cycle_x s.width (sign_cycle m.shown m); y = lane_y s.channels m.lane + foot_of m.shown }
+sign_corner s m =
+    record { x = cycle_x s.width (sign_cycle m.shown m); y = lane_y s.channels m.lane + foot_of s m.shown }
 
 abbrev pub bar_corner : Sheet → List (Option Scale) → Mark → Corner
 bar_corner s scales m =
     record {
       x = cycle_x s.width m.first;
-      y = lane_y s.channels m.lane + (foot_of m.shown - height_of s scales m.lane m.shown);
+      y = lane_y s.channels m.lane + (foot_of s m.shown - height_of s scales m.lane m.shown);
     }
 
 abbrev pub bar_side : Sheet → List (Option Scale) → Mark → Side
 bar_side s scales m =
     record { width = (m.past - m.first) * s.width; height = height_of s scales m.lane m.shown }
 
+-- a threshold above the highest bar is left out
+abbrev pub is_above : Sheet → Shown → Bool
+is_above s (shown.Threshold count) = nat_lt s.most_counted count
+is_above s _ = false
+
 -- the text of a mark
 unfoldable pub mark_text : Sheet → List (Option Scale) → Mark → TextValue
 mark_text s scales m =
     if is_sign m.shown
     then svg_sign_text (class_of m.shown) (sign_corner s m) (title_of m)
-    else rect_text (class_of m.shown) (bar_corner s scales m) (bar_side s scales m) (title_of m)
+    else (if is_above s m.shown then [] else
+    rect_text (class_of m.shown) (bar_corner s scales m) (bar_side s scales m) (title_of m))

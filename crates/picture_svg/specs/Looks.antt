@@ -8,8 +8,8 @@ ground_style =
     codes "<style>\n"
     ++ codes ".card{fill:#fff;stroke:#d4d9de;stroke-width:100}text{font-family:DejaVu Sans,Verdana,sans-serif}\n"
     ++ codes ".head{fill:#1b2127;font-weight:600;font-size:1700px}.said{fill:#4c565f;font-size:1200px}\n"
-    ++ codes ""
-    ++ codes ".alarm{fill:#b3261e;font-weight:600;font-size:1200px}.name{fill:#1b2127;font-weight:600;font-size:1200px}\n"
+    ++ codes ".alarm{fill:#b3261e;font-weight:600;font-size:1200px}"
+    ++ codes ".name{fill:#1b2127;font-weight:600;font-size:1200px}\n"
     ++ codes ".small{fill:#5d6770;font-size:1000px}.tick{fill:#5d6770;font-size:1000px;text-anchor:middle}\n"
     ++ codes ".grid{stroke:#e3e7ea;stroke-width:100}.axis{stroke:#7d8790;stroke-width:100}.void{fill:#eef0f2}\n"
 
@@ -20,22 +20,22 @@ mark_style =
     ++ codes ".restored{fill:url(#bars)}.judged{fill:#d55e00}.count{fill:#7a4fa3;fill-opacity:.6}\n"
     ++ codes ".left{fill:#35b392;fill-opacity:.6}.vote{fill:#24638f;fill-opacity:.6}\n"
     ++ codes ".cross{fill:none;stroke:#b3261e;stroke-width:240;stroke-linecap:round}\n"
-    ++ codes ""
     ++ codes ".diamond{fill:#00694d;stroke:#fff;stroke-width:80}.disturbed{fill:none;stroke:#b3261e;stroke-width:200}\n"
     ++ codes ".stop{stroke:#b3261e;stroke-width:200}.ink{stroke:#7d8790;stroke-width:160}.leaf{fill:#35b392}\n"
     ++ codes ".rib{stroke:#fff;stroke-width:120;stroke-opacity:.75}.dot{fill:#7d8790}\n"
+    ++ codes ".limit{fill:url(#dashes)}.dash{fill:#1b2127}\n"
     ++ codes ".ring{fill:none;stroke:#5d6770;stroke-width:220}\n"
 
 -- the same on a dark page
 unfoldable pub dark_style : TextValue
 dark_style =
     codes "@media (prefers-color-scheme:dark){.card{fill:#161b20;stroke:#39424b}.head,.name{fill:#eef2f5}\n"
-    ++ codes ""
-    ++ codes ".said{fill:#b9c3cb}.small,.tick{fill:#a3adb6}.alarm{fill:#ff7a6e}.grid{stroke:#2a323a}.void{fill:#20272d}\n"
-    ++ codes ""
-    ++ codes ".runs{fill:#37668c}.judged{fill:#ff8a3d}.count{fill:#c39ae8}.vote{fill:#7cc0f0}.left,.leaf{fill:#21876b}\n"
+    ++ codes ".said{fill:#b9c3cb}.small,.tick{fill:#a3adb6}.alarm{fill:#ff7a6e}"
+    ++ codes ".grid{stroke:#2a323a}.void{fill:#20272d}\n"
+    ++ codes ".runs{fill:#37668c}.judged{fill:#ff8a3d}.count{fill:#c39ae8}"
+    ++ codes ".vote{fill:#7cc0f0}.left,.leaf{fill:#21876b}\n"
     ++ codes ".cross,.disturbed,.stop{stroke:#ff7a6e}.diamond{fill:#4fe0b4;stroke:#161b20}.rib{stroke:#161b20}\n"
-    ++ codes ".ring{stroke:#a3adb6}}\n"
+    ++ codes ".ring{stroke:#a3adb6}.dash{fill:#eef2f5}}\n"
     ++ codes "</style>\n"
 
 -- the patterns, and the signs of a removal and of a join
@@ -52,6 +52,9 @@ signs_text =
     ++ codes "</pattern>\n"
     ++ codes "<pattern id='dots' width='450' height='200' patternUnits='userSpaceOnUse'>\n"
     ++ codes "<rect class='dot' width='150' height='200'/>\n"
+    ++ codes "</pattern>\n"
+    ++ codes "<pattern id='dashes' width='600' height='600' patternUnits='userSpaceOnUse'>\n"
+    ++ codes "<rect class='dash' width='350' height='600'/>\n"
     ++ codes "</pattern>\n"
     ++ codes "<path id='removed' class='cross' d='M-450,-450l900,900m0,-900l-900,900'/>\n"
     ++ codes "<path id='joined' class='diamond' d='M0,-650l650,650l-650,650l-650,-650Z'/>\n"
@@ -78,6 +81,8 @@ signs_legend =
     ++ codes "<text class='said' x='72200' y='1000'>removed</text>\n"
     ++ codes "<use href='#joined' x='81100' y='600'/>\n"
     ++ codes "<text class='said' x='82900' y='1000'>declared joined</text>\n"
+    ++ codes "<rect class='limit' x='97200' y='550' width='2200' height='100'/>\n"
+    ++ codes "<text class='said' x='100100' y='1000'>threshold, final frame</text>\n"
     ++ codes "<rect class='count' x='2000' y='2200' width='2200' height='1200'/>\n"
     ++ codes "<text class='said' x='4900' y='3200'>error count</text>\n"
     ++ codes "<rect class='left' x='14400' y='2200' width='2200' height='1200'/>\n"

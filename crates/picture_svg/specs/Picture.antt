@@ -8,6 +8,7 @@ use Rattle.guards_model.specs.Texts.{TextValue}
 use Rattle.svg_text.specs.Pieces.{open_text, close_text, label_text, svg_line_text, rect_text}
 use Rattle.svg_text.specs.declared.pieces.Corner.{Corner}
 use Rattle.svg_text.specs.declared.pieces.Side.{Side}
+use Rattle.picture_marks.specs.declared.facts.Limits.{Limits}
 use Rattle.picture_marks.specs.declared.facts.End.{End}
 use Rattle.picture_marks.specs.declared.facts.End.TheVariants as ending
 use Rattle.picture_marks.specs.declared.shown.Mark.{Mark}
@@ -45,6 +46,18 @@ abbrev pub end_class : End → TextValue
 end_class ending.Done = codes "said"
 end_class (ending.Stop cycle slot set active) = codes "alarm"
 end_class ending.Cut = codes "alarm"
+
+-- the limits of the mission, where that is known: whether the threshold is higher than the highest bar of a count, and
+-- how many blocks a final frame may carry
+unfoldable pub limits_words : Limits → ℕ → TextValue
+limits_words l most =
+    codes "threshold " ++ decimal l.threshold ++ codes "/65536"
+    ++ (if nat_lt most l.threshold then codes " (above the bars)" else [])
+    ++ codes ", final frame " ++ decimal l.last ++ codes " blocks"
+
+unfoldable pub limits_text : Option Limits → ℕ → TextValue
+limits_text None most = []
+limits_text (Some l) most = label_text (codes "said") (corner 60000 5400) (limits_words l most)
 
 -- ---- the plot
 
@@ -127,15 +140,16 @@ unfoldable pub style_text : TextValue
 style_text = ground_style ++ mark_style ++ dark_style ++ signs_text
 
 -- the beginning, the ground and the words above the plot
-unfoldable pub front_text : ℕ → ℕ → ℕ → ℕ → End → TextValue
-front_text channels outputs cycles whole end =
-    open_text (side 120000 (axis_y channels outputs + 9200)) 1200
-    (head_words channels cycles ++ codes "; " ++ end_words whole end)
+unfoldable pub front_text : Option Limits → Sheet → ℕ → ℕ → End → TextValue
+front_text limits s cycles whole end =
+    open_text (side 120000 (axis_y s.channels s.outputs + 9200)) 1200
+    (head_words s.channels cycles ++ codes "; " ++ end_words whole end)
     ++ style_text
-    ++ rect_text (codes "card") (corner 50 50) (side 119900 (axis_y channels outputs + 9100))
-    (head_words channels cycles)
-    ++ label_text (codes "head") (corner 2000 3200) (head_words channels cycles)
+    ++ rect_text (codes "card") (corner 50 50) (side 119900 (axis_y s.channels s.outputs + 9100))
+    (head_words s.channels cycles)
+    ++ label_text (codes "head") (corner 2000 3200) (head_words s.channels cycles)
     ++ label_text (end_class end) (corner 2000 5400) (end_words whole end)
+    ++ limits_text limits s.most_counted
 
 -- the lines of the plot and the names of its rows
 unfoldable pub plot_text : ℕ → ℕ → Sheet → List (Option Scale) → TextValue
@@ -154,16 +168,16 @@ foot_text axis =
     ++ states_legend ++ signs_legend ++ ends_legend ++ codes "</g>\n" ++ close_text
 
 -- the text of a picture whose marks, sheet and scales are given
-unfoldable pub sheet_text : ℕ → ℕ → End → List Mark → Sheet → List (Option Scale) → TextValue
-sheet_text cycles whole end marks s scales =
-    front_text s.channels s.outputs cycles whole end
+unfoldable pub sheet_text : Option Limits → ℕ → ℕ → End → List Mark → Sheet → List (Option Scale) → TextValue
+sheet_text limits cycles whole end marks s scales =
+    front_text limits s cycles whole end
     ++ plot_text cycles whole s scales
     ++ flat_map (mark_text s scales) marks
     ++ stop_mark_text s end
     ++ foot_text (axis_y s.channels s.outputs)
 
--- the picture of some marks, by how many channels, outputs and cycles there are, how many cycles are told, and how the
--- report ends
-unfoldable pub svg_of : ℕ → ℕ → ℕ → ℕ → End → List Mark → TextValue
-svg_of channels outputs cycles whole end marks =
-    sheet_text cycles whole end marks (sheet_of channels outputs cycles marks) (scales_of outputs marks)
+-- the picture of some marks, by the limits of the mission where that is known, how many channels, outputs and cycles
+-- there are, how many cycles are told, and how the report ends
+unfoldable pub svg_of : Option Limits → ℕ → ℕ → ℕ → ℕ → End → List Mark → TextValue
+svg_of limits channels outputs cycles whole end marks =
+    sheet_text limits cycles whole end marks (sheet_of channels outputs cycles marks) (scales_of outputs marks)

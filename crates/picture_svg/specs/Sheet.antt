@@ -1,5 +1,5 @@
 -- Where on the sheet things stand, in hundredths of a pixel, and how high bars are.
-use Rattle.std.specs.Prelude.{ℕ, ◌+◌, ◌-◌, ◌*◌, ◌/◌, min, max, ◌==◌, ℤ, ◌-ℤ◌, unsigned_abs, Bool, false, List, map, fold, Option, Some, None, if◌then◌else◌}
+use Rattle.std.specs.Prelude.{ℕ, ◌+◌, ◌-◌, ◌*◌, ◌/◌, min, max, ◌==◌, nat_le, ℤ, ◌-ℤ◌, unsigned_abs, Bool, false, List, map, fold, Option, Some, None, if◌then◌else◌}
 use Rattle.std.specs.Int.{int_max, int_min}
 use Rattle.guards_model.specs.Channels.{numbers_below}
 use Rattle.picture_marks.specs.declared.shown.Lane.{Lane}
@@ -38,10 +38,12 @@ abbrev pub lane_y : ℕ → Lane → ℕ
 lane_y channels (lane.State q) = channel_y q
 lane_y channels (lane.Judged q) = channel_y q
 lane_y channels (lane.Count q) = channel_y q
+lane_y channels (lane.Threshold q) = channel_y q
 lane_y channels (lane.Removed q) = channel_y q
 lane_y channels (lane.Joined q) = channel_y q
 lane_y channels (lane.Dropped q) = channel_y q
 lane_y channels lane.Remaining = transfer_y channels
+lane_y channels lane.Final = transfer_y channels
 lane_y channels (lane.Output k) = output_y channels k
 
 -- ---- the height of bars: in proportion to the greatest value that is shown
@@ -51,11 +53,18 @@ scaled value highest tall = min tall (value * tall / max 1 highest)
 
 abbrev pub measured : Measure → Shown → ℕ
 measured measure.Counts (shown.Count count) = count
+measured measure.Thresholds (shown.Threshold count) = count
 measured measure.Blocks (shown.Blocks left) = left
+measured measure.Blocks (shown.Final blocks) = blocks
 measured _ _ = 0
 
 abbrev pub highest : Measure → List Mark → ℕ
 highest m marks = fold (λ most mark. max most (measured m mark.shown)) 0 marks
+
+-- what the highest bar of a count stands for: the greatest count, or the threshold where that is greater, but no more
+-- than four times as great
+abbrev pub top_count : ℕ → ℕ → ℕ
+top_count counted threshold = if nat_le threshold (4 * counted) then max counted threshold else counted
 
 -- the scale of an output: from its least word to its greatest
 abbrev pub widened : Option Scale → ℤ → Scale
@@ -91,6 +100,6 @@ sheet_of channels outputs cycles marks =
       channels = channels;
       outputs = outputs;
       width = cycle_width cycles;
-      most_counted = highest measure.Counts marks;
+      most_counted = top_count (highest measure.Counts marks) (highest measure.Thresholds marks);
       most_left = highest measure.Blocks marks;
     }

@@ -1,7 +1,7 @@
 //! What a mark looks like, where it stands, and what it says.
 ghost use Rattle.std.specs.Prelude.{◌≡◌, ◌≤◌, ◌++◌, ◌+◌, ◌==◌, List, get_or, flat_map, codes, string_bytes, None, IfOk};
 ghost use Rattle.std.specs.Fmt.{decimal};
-ghost use Rattle.picture_svg.specs.Drawing.{bar_corner, bar_side, class_of, foot_of, height_of, is_sign, mark_text, output_of, sign_corner, sign_cycle, subject_text, title_of, when_text, mark_words};
+ghost use Rattle.picture_svg.specs.Drawing.{bar_corner, bar_side, class_of, foot_of, height_of, is_above, is_sign, mark_text, output_of, sign_corner, sign_cycle, subject_text, title_of, when_text, mark_words};
 
 use crate::sheet::{Scale, Sheet, cycle_x, lane_y, scaled, word_height};
 use picture_marks::{Lane, Mark, Shown};
@@ -22,7 +22,9 @@ fn class_of(shown: Shown) -> &'static str
         Shown::Joined { .. } => "joined",
         Shown::Dropped { .. } => "dropped",
         Shown::Count { .. } => "count",
+        Shown::Threshold { .. } => "limit",
         Shown::Blocks { .. } => "left",
+        Shown::Final { .. } => "limit",
         Shown::Vote { .. } => "vote",
     }
 }
@@ -41,10 +43,12 @@ fn subject_text(alloc: Global, lane: Lane) -> Result<String, AllocError>
         Lane::State { channel } => channel_text(alloc, channel),
         Lane::Judged { channel } => channel_text(alloc, channel),
         Lane::Count { channel } => channel_text(alloc, channel),
+        Lane::Threshold { channel } => channel_text(alloc, channel),
         Lane::Removed { channel } => channel_text(alloc, channel),
         Lane::Joined { channel } => channel_text(alloc, channel),
         Lane::Dropped { channel } => channel_text(alloc, channel),
         Lane::Remaining => String::from_str(alloc, "the transfer"),
+        Lane::Final => String::from_str(alloc, "the transfer"),
         Lane::Output { place } => format!(in alloc; "output {place}"),
     }
 }
@@ -66,7 +70,11 @@ fn words_of(alloc: Global, shown: Shown) -> Result<String, AllocError>
             format!(in alloc; "is dropped from the transfer before cycle {cycle}")
         }
         Shown::Count { count } => format!(in alloc; "has a count of {count}/65536"),
+        Shown::Threshold { count } => { format!(in alloc; "has a threshold of {count}/65536") }
         Shown::Blocks { left } => format!(in alloc; "has {left} blocks left"),
+        Shown::Final { blocks } => {
+            format!(in alloc; "has room for {blocks} blocks in a final frame")
+        }
         Shown::Vote { word } => format!(in alloc; "is {word}"),
     }
 }
@@ -105,9 +113,10 @@ fn title_of(alloc: Global, mark: Mark) -> Result<String, AllocError>
     format!(in alloc; "{subject} {words}, {when}")
 }
 
-fn foot_of(shown: Shown) -> u64
-    ensures value { result ≡ foot_of shown }
-    ensures most { result ≤ 3500 }
+/// The lower edge of a mark in its row. A limit stands across its row, as high as a bar of its number is.
+fn foot_of(sheet: Sheet, shown: Shown) -> u64
+    ensures value { result ≡ foot_of sheet shown }
+    ensures most { result ≤ 3550 }
 {
     match shown {
         Shown::Nothing => 0,
@@ -120,7 +129,11 @@ fn foot_of(shown: Shown) -> u64
         Shown::Joined { .. } => 750,
         Shown::Dropped { .. } => 750,
         Shown::Count { .. } => 3_500,
+        Shown::Threshold { count } => {
+            3_550 - scaled(u64::from(count), sheet.most_counted, 1_600)
+        }
         Shown::Blocks { .. } => 3_200,
+        Shown::Final { blocks } => 3_250 - scaled(u64::from(blocks), sheet.most_left, 3_000),
         Shown::Vote { .. } => 3_000,
     }
 }
@@ -160,7 +173,9 @@ fn height_of(sheet: Sheet, scales: &[Option<Scale>], lane: Lane, shown: Shown) -
         Shown::Joined { .. } => 0,
         Shown::Dropped { .. } => 0,
         Shown::Count { count } => scaled(u64::from(count), sheet.most_counted, 1_600),
+        Shown::Threshold { .. } => 100,
         Shown::Blocks { left } => scaled(u64::from(left), sheet.most_left, 3_000),
+        Shown::Final { .. } => 100,
         Shown::Vote { word } => word_height(scale_at(scales, output_of(lane)), word) + 200,
     }
 }
@@ -173,6 +188,16 @@ fn is_sign(shown: Shown) -> bool
         shown,
         Shown::Removed { .. } | Shown::Joined { .. } | Shown::Dropped { .. }
     )
+}
+
+/// Whether a mark is a threshold above the highest bar.
+fn is_above(sheet: Sheet, shown: Shown) -> bool
+    ensures { result ≡ is_above sheet shown }
+{
+    match shown {
+        Shown::Threshold { count } => sheet.most_counted < u64::from(count),
+        _ => false,
+    }
 }
 
 /// The cycle where a sign stands: it stands where the cycle begins.
@@ -191,7 +216,7 @@ fn sign_corner(sheet: Sheet, mark: Mark) -> Corner
 {
     Corner {
         x: cycle_x(sheet.width, u64::from(sign_cycle(mark.shown, mark))),
-        y: lane_y(sheet.channels, mark.lane) + foot_of(mark.shown),
+        y: lane_y(sheet.channels, mark.lane) + foot_of(sheet, mark.shown),
     }
 }
 
@@ -200,7 +225,7 @@ fn bar_corner(sheet: Sheet, scales: &[Option<Scale>], mark: Mark) -> Corner
     ensures { result ≡ bar_corner sheet scales.now mark }
 {
     let height = height_of(sheet, scales, mark.lane, mark.shown);
-    let top = foot_of(mark.shown).saturating_sub(height);
+    let top = foot_of(sheet, mark.shown).saturating_sub(height);
     Corner {
         x: cycle_x(sheet.width, u64::from(mark.first)),
         y: lane_y(sheet.channels, mark.lane) + top,
@@ -233,6 +258,9 @@ fn mark_text(
     let title = title_of(alloc, mark)?;
     if is_sign(mark.shown) {
         return sign(alloc, class, sign_corner(sheet, mark), &title);
+    }
+    if is_above(sheet, mark.shown) {
+        return Ok(String::new(alloc));
     }
     let corner = bar_corner(sheet, scales, mark);
     rect(alloc, class, corner, bar_side(sheet, scales, mark), &title)

@@ -29,6 +29,7 @@ pub(crate) fn mark_style() -> &'static str
 .diamond{fill:#00694d;stroke:#fff;stroke-width:80}.disturbed{fill:none;stroke:#b3261e;stroke-width:200}
 .stop{stroke:#b3261e;stroke-width:200}.ink{stroke:#7d8790;stroke-width:160}.leaf{fill:#35b392}
 .rib{stroke:#fff;stroke-width:120;stroke-opacity:.75}.dot{fill:#7d8790}
+.limit{fill:url(#dashes)}.dash{fill:#1b2127}
 .ring{fill:none;stroke:#5d6770;stroke-width:220}
 "
 }
@@ -42,7 +43,7 @@ pub(crate) fn dark_style() -> &'static str
 .said{fill:#b9c3cb}.small,.tick{fill:#a3adb6}.alarm{fill:#ff7a6e}.grid{stroke:#2a323a}.void{fill:#20272d}
 .runs{fill:#37668c}.judged{fill:#ff8a3d}.count{fill:#c39ae8}.vote{fill:#7cc0f0}.left,.leaf{fill:#21876b}
 .cross,.disturbed,.stop{stroke:#ff7a6e}.diamond{fill:#4fe0b4;stroke:#161b20}.rib{stroke:#161b20}
-.ring{stroke:#a3adb6}}
+.ring{stroke:#a3adb6}.dash{fill:#eef2f5}}
 </style>
 "
 }
@@ -62,6 +63,9 @@ pub(crate) fn signs_text() -> &'static str
 </pattern>
 <pattern id='dots' width='450' height='200' patternUnits='userSpaceOnUse'>
 <rect class='dot' width='150' height='200'/>
+</pattern>
+<pattern id='dashes' width='600' height='600' patternUnits='userSpaceOnUse'>
+<rect class='dash' width='350' height='600'/>
 </pattern>
 <path id='removed' class='cross' d='M-450,-450l900,900m0,-900l-900,900'/>
 <path id='joined' class='diamond' d='M0,-650l650,650l-650,650l-650,-650Z'/>
@@ -97,6 +101,8 @@ pub(crate) fn signs_legend() -> &'static str
 <text class='said' x='72200' y='1000'>removed</text>
 <use href='#joined' x='81100' y='600'/>
 <text class='said' x='82900' y='1000'>declared joined</text>
+<rect class='limit' x='97200' y='550' width='2200' height='100'/>
+<text class='said' x='100100' y='1000'>threshold, final frame</text>
 <rect class='count' x='2000' y='2200' width='2200' height='1200'/>
 <text class='said' x='4900' y='3200'>error count</text>
 <rect class='left' x='14400' y='2200' width='2200' height='1200'/>

@@ -1,10 +1,10 @@
 //! The whole picture, part by part.
-ghost use Rattle.std.specs.Prelude.{◌≡◌, ◌≤◌, ◌<◌, ◌^◌, ◌++◌, ◌+◌, List, get_or, length, flat_map, codes, string_bytes, IfOk};
+ghost use Rattle.std.specs.Prelude.{◌≡◌, ◌≤◌, ◌<◌, ◌^◌, ◌++◌, ◌+◌, List, [], if◌then◌else◌, get_or, length, flat_map, codes, string_bytes, IfOk};
 ghost use Rattle.std.specs.Fmt.{decimal, signed_decimal};
 ghost use Rattle.guards_model.specs.Channels.{ChannelSet, numbers_below};
 ghost use Rattle.guards_model.specs.Slots.{slot_text};
 ghost use Rattle.picture_marks.specs.Marks.{marks_of};
-ghost use Rattle.picture_svg.specs.Picture.{channel_name, disturbed_text, end_class, end_words, foot_text, front_text, head_words, names_text, output_name, plot_text, range_text, sheet_text, stop_mark_text, stop_words, stopped_text, style_text, svg_of, tick_step, tick_text, ticks_text, transfer_name, void_text};
+ghost use Rattle.picture_svg.specs.Picture.{channel_name, disturbed_text, end_class, end_words, foot_text, front_text, head_words, limits_text, limits_words, names_text, output_name, plot_text, range_text, sheet_text, stop_mark_text, stop_words, stopped_text, style_text, svg_of, tick_step, tick_text, ticks_text, transfer_name, void_text};
 
 use crate::drawing::{marks_text, scale_at};
 use crate::looks::{
@@ -14,7 +14,7 @@ use crate::sheet::{
     Scale, Sheet, axis_y, channel_y, cycle_x, output_y, scales, sheet_of, transfer_y,
 };
 use guards_base::{Chan, ChanSet, Slot};
-use picture_marks::{CycleFacts, End, Mark, marks};
+use picture_marks::{CycleFacts, End, Limits, Mark, marks};
 use std::alloc::{AllocError, Global};
 use svg_text::{Corner, Side, close, label, line, open, rect};
 
@@ -85,6 +85,47 @@ fn end_class(end: &End) -> &'static str
     }
 }
 
+/// What is said where the threshold is higher than the highest bar of a count.
+fn above_words(is_above: bool) -> &'static str
+    ensures { result.now ≡ (if is_above then codes " (above the bars)" else []) }
+{
+    match is_above {
+        true => " (above the bars)",
+        false => "",
+    }
+}
+
+fn limits_words(alloc: Global, limits: Limits, most: u64) -> Result<String, AllocError>
+    ensures { IfOk result (λ text. string_bytes text ≡ limits_words limits most) }
+{
+    let threshold = limits.threshold;
+    let above = above_words(most < u64::from(threshold));
+    let last = limits.last;
+    format!(in alloc; "threshold {threshold}/65536{above}, final frame {last} blocks")
+}
+
+/// The limits of the mission, where that is known.
+#[tactic(auto, unfolding(crate::specs::Picture::limits_text))]
+fn limits_text(alloc: Global, limits: Option<Limits>, most: u64) -> Result<String, AllocError>
+    ensures { IfOk result (λ text. string_bytes text ≡ limits_text limits most) }
+{
+    match limits {
+        None => Ok(String::new(alloc)),
+        Some(limits) => {
+            let words = limits_words(alloc, limits, most)?;
+            label(
+                alloc,
+                "said",
+                Corner {
+                    x: 60_000,
+                    y: 5_400,
+                },
+                &words,
+            )
+        }
+    }
+}
+
 fn style_text(alloc: Global) -> Result<String, AllocError>
     ensures { IfOk result (λ text. string_bytes text ≡ style_text) }
 {
@@ -98,12 +139,13 @@ fn style_text(alloc: Global) -> Result<String, AllocError>
 /// The beginning, the ground and the words above the plot.
 fn front_text(
     alloc: Global,
+    limits: Option<Limits>,
     sheet: Sheet,
     cycles: u32,
     whole: u64,
     end: &End,
 ) -> Result<String, AllocError>
-    ensures { IfOk result (λ text. string_bytes text ≡ front_text sheet.channels sheet.outputs cycles whole end.now) }
+    ensures { IfOk result (λ text. string_bytes text ≡ front_text limits sheet cycles whole end.now) }
 {
     let axis = axis_y(sheet.channels, sheet.outputs);
     let head = head_words(alloc, sheet.channels, cycles)?;
@@ -122,7 +164,8 @@ fn front_text(
     let card = rect(alloc, "card", Corner { x: 50, y: 50 }, card, &head)?;
     let title = label(alloc, "head", Corner { x: 2_000, y: 3_200 }, &head)?;
     let end = label(alloc, end_class(end), Corner { x: 2_000, y: 5_400 }, &said)?;
-    format!(in alloc; "{open}{style}{card}{title}{end}")
+    let limits = limits_text(alloc, limits, sheet.most_counted)?;
+    format!(in alloc; "{open}{style}{card}{title}{end}{limits}")
 }
 
 fn tick_step(cycles: u32) -> u32
@@ -417,6 +460,7 @@ fn foot_text(alloc: Global, axis: u64) -> Result<String, AllocError>
 /// The picture whose marks, sheet and scales are given.
 fn sheet_text(
     alloc: Global,
+    limits: Option<Limits>,
     cycles: u32,
     whole: u64,
     end: &End,
@@ -426,9 +470,10 @@ fn sheet_text(
 ) -> Result<String, AllocError>
     requires width { sheet.width ≤ 101600 }
     requires channels { sheet.channels ≤ 7 }
-    ensures { IfOk result (λ text. string_bytes text ≡ sheet_text cycles whole end.now marks.now sheet scales.now) }
+    ensures { IfOk result (λ text. string_bytes text
+        ≡ sheet_text limits cycles whole end.now marks.now sheet scales.now) }
 {
-    let front = front_text(alloc, sheet, cycles, whole, end)?;
+    let front = front_text(alloc, limits, sheet, cycles, whole, end)?;
     let plot = plot_text(alloc, cycles, whole, sheet, scales)?;
     let marks = marks_text(alloc, sheet, scales, marks)?;
     let stop = stop_text(alloc, sheet, end)?;
@@ -436,10 +481,12 @@ fn sheet_text(
     format!(in alloc; "{front}{plot}{marks}{stop}{foot}")
 }
 
-/// The picture of a report with so many channels, outputs and cycles, by what it tells of each cycle and how it ends.
+/// The picture of a report with so many channels, outputs and cycles, by what it tells of each cycle and how it ends,
+/// and with the limits of its mission where that is known.
 #[tactic(auto, unfolding(crate::specs::Picture::svg_of))]
 pub fn picture_text(
     alloc: Global,
+    limits: Option<Limits>,
     channels: u8,
     outputs: u8,
     cycles: u32,
@@ -449,13 +496,15 @@ pub fn picture_text(
     requires channels { channels ≤ 7 }
     requires told { length told.now < 2 ^ 32 }
     ensures { IfOk result (λ text. string_bytes text
-        ≡ svg_of channels outputs cycles (length told.now) end.now (marks_of channels outputs told.now)) }
+        ≡ svg_of limits channels outputs cycles (length told.now) end.now
+        (marks_of limits channels outputs told.now)) }
 {
-    let marks = marks(alloc, channels, outputs, told)?;
+    let marks = marks(alloc, limits, channels, outputs, told)?;
     let sheet = sheet_of(channels, outputs, cycles, &marks);
     let scales = scales(alloc, outputs, &marks)?;
     sheet_text(
         alloc,
+        limits,
         cycles,
         told.len() as u64,
         end,

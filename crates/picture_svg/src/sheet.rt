@@ -1,6 +1,6 @@
 //! Where on the sheet things stand, and how high bars are.
 ghost use Rattle.std.specs.Prelude.{◌≡◌, ◌≤◌, ◌<◌, ◌^◌, ℕ, List, map, IfOk};
-ghost use Rattle.picture_svg.specs.Sheet.{axis_y, channel_y, cycle_width, cycle_x, highest, is_output, lane_y, measured, output_y, scale_of, scaled, scales_of, sheet_of, transfer_y, widened, with_mark, with_sheet_word, word_height};
+ghost use Rattle.picture_svg.specs.Sheet.{axis_y, channel_y, cycle_width, cycle_x, highest, is_output, lane_y, measured, output_y, scale_of, scaled, scales_of, sheet_of, top_count, transfer_y, widened, with_mark, with_sheet_word, word_height};
 
 use picture_marks::{Lane, Mark, Shown};
 use std::alloc::{AllocError, Global};
@@ -16,6 +16,7 @@ pub struct Scale {
 #[derive(Clone, Copy, Debug)]
 pub enum Measure {
     Counts,
+    Thresholds,
     Blocks,
 }
 
@@ -85,10 +86,12 @@ pub(crate) fn lane_y(channels: u8, lane: Lane) -> u64
         Lane::State { channel } => channel_y(channel),
         Lane::Judged { channel } => channel_y(channel),
         Lane::Count { channel } => channel_y(channel),
+        Lane::Threshold { channel } => channel_y(channel),
         Lane::Removed { channel } => channel_y(channel),
         Lane::Joined { channel } => channel_y(channel),
         Lane::Dropped { channel } => channel_y(channel),
         Lane::Remaining => transfer_y(channels),
+        Lane::Final => transfer_y(channels),
         Lane::Output { place } => output_y(channels, place),
     }
 }
@@ -108,7 +111,9 @@ fn measured(measure: Measure, shown: Shown) -> u64
 {
     match (measure, shown) {
         (Measure::Counts, Shown::Count { count }) => u64::from(count),
+        (Measure::Thresholds, Shown::Threshold { count }) => u64::from(count),
         (Measure::Blocks, Shown::Blocks { left }) => u64::from(left),
+        (Measure::Blocks, Shown::Final { blocks }) => u64::from(blocks),
         _ => 0,
     }
 }
@@ -122,6 +127,17 @@ fn highest(measure: Measure, marks: &[Mark]) -> u64
         most = most.max(measured(measure, mark.shown));
     }
     most
+}
+
+/// What the highest bar of a count stands for.
+fn top_count(counted: u64, threshold: u64) -> u64
+    ensures { result ≡ top_count counted threshold }
+{
+    if u128::from(threshold) <= 4 * u128::from(counted) {
+        counted.max(threshold)
+    } else {
+        counted
+    }
 }
 
 fn widened(scale: Option<Scale>, word: i64) -> Scale
@@ -217,7 +233,10 @@ pub(crate) fn sheet_of(channels: u8, outputs: u8, cycles: u32, marks: &[Mark]) -
         channels,
         outputs,
         width: cycle_width(cycles),
-        most_counted: highest(Measure::Counts, marks),
+        most_counted: top_count(
+            highest(Measure::Counts, marks),
+            highest(Measure::Thresholds, marks),
+        ),
         most_left: highest(Measure::Blocks, marks),
     }
 }

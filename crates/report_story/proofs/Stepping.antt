@@ -5,61 +5,78 @@ use Rattle.std.proofs.lemmas.Bool.{leb-true}
 use Rattle.std.proofs.lemmas.List.{length-append}
 use Rattle.guards_model.specs.Missions.{within}
 use Rattle.guards_model.specs.Texts.{TextValue, LineValue, StopValue}
-use Rattle.guards_model.proofs.BoolTests.{both, differ}
+use Rattle.guards_model.proofs.BoolTests.{and_true, both, differ, second_false}
 use Rattle.guards_audit.specs.Lines.{ReportLine, head_told, cycle_told, channel_told, steps_told, end_told, out_told, done_told, stop_told, if_there, lines_in}
 use Rattle.guards_audit.specs.Reading.{line_read}
 use Rattle.run_audit.specs.declared.line.Sizes.{Sizes}
 use Rattle.run_audit.specs.Values.{IsInUse}
+use Rattle.report_story.specs.declared.reader.RunSizes.{RunSizes}
 use Rattle.report_story.specs.declared.reader.Stage.{Stage}
 use Rattle.report_story.specs.declared.reader.Stage.TheVariants as stage
-use Rattle.report_story.specs.Places.{StoryPlace, suits_story, story_after, if_suits, story_told, story_of, at_first, ended_story, is_story_head, is_story_amid, is_between, sizes_fit, story_sizes, line_fits, line_comes_next}
+use Rattle.report_story.specs.Places.{StoryPlace, suits_story, story_after, if_suits, story_told, story_of, at_first, ended_story, is_story_head, is_story_amid, is_between, sizes_fit, story_sizes, line_fits, line_comes_next, fits_mission}
 use Rattle.report_story.specs.Answers.{IsPlace, StepsStory, OnlyStops}
 
 -- a line that the text spells was taken or not
-pub stepped : (p : StoryPlace) (text : TextValue) (line : ReportLine) (fits : Bool) (q : StoryPlace) →
-    line_read text ≡ Some line → fits ≡ suits_story p line → (fits ≡ true → q ≡ story_after p line) →
-    StepsStory p text fits q
-stepped p text line true q is fit told =
-    ap (if_suits p) is ∙ ap (λ b. cond b (Some (story_after p line)) None) (sym fit)
+pub stepped : (known : Option RunSizes) (p : StoryPlace) (text : TextValue) (line : ReportLine) (fits : Bool)
+    (q : StoryPlace) →
+    line_read text ≡ Some line → fits_mission known line ≡ true → fits ≡ suits_story p line →
+    (fits ≡ true → q ≡ story_after p line) →
+    StepsStory known p text fits q
+stepped known p text line true q is of_mission fit told =
+    ap (if_suits known p) is ∙ ap (λ b. cond b (Some (story_after p line)) None)
+    (and_true (fits_mission known line) (suits_story p line) of_mission (sym fit))
     ∙ ap (λ x. Some x) (sym (told refl))
-stepped p text line false q is fit told =
-    ap (if_suits p) is ∙ ap (λ b. cond b (Some (story_after p line)) None) (sym fit)
+stepped known p text line false q is of_mission fit told =
+    ap (if_suits known p) is ∙ ap (λ b. cond b (Some (story_after p line)) None)
+    (second_false (fits_mission known line) (suits_story p line) (sym fit))
 
-none_of : (p : StoryPlace) (o : Option ReportLine) →
+-- a line that the text spells is none of the mission
+pub strange : (known : Option RunSizes) (p : StoryPlace) (text : TextValue) (line : ReportLine) (q : StoryPlace) →
+    line_read text ≡ Some line → fits_mission known line ≡ false → StepsStory known p text false q
+strange known p text line q is other =
+    ap (if_suits known p) is ∙ ap (λ b. cond (b && suits_story p line) (Some (story_after p line)) None) other
+
+none_of : (known : Option RunSizes) (p : StoryPlace) (o : Option ReportLine) →
     ((line : ReportLine) → o ≡ Some line → suits_story p line ≡ false) →
-    if_suits p o ≡ None
-none_of p None h = refl
-none_of p (Some line) h = ap (λ b. cond b (Some (story_after p line)) None) (h line refl)
+    if_suits known p o ≡ None
+none_of known p None h = refl
+none_of known p (Some line) h =
+    ap (λ b. cond b (Some (story_after p line)) None)
+    (second_false (fits_mission known line) (suits_story p line) (h line refl))
 
 -- no line that the text spells may come
-pub none_fits : (p : StoryPlace) (text : TextValue) →
-    ((line : ReportLine) → line_read text ≡ Some line → suits_story p line ≡ false) → if_suits p (line_read text) ≡ None
-none_fits p text h = none_of p (line_read text) h
+pub none_fits : (known : Option RunSizes) (p : StoryPlace) (text : TextValue) →
+    ((line : ReportLine) → line_read text ≡ Some line → suits_story p line ≡ false) →
+    if_suits known p (line_read text) ≡ None
+none_fits known p text h = none_of known p (line_read text) h
 
 -- ---- the loop
 
-pub begins : (text : TextValue) → story_told 0 (Some at_first) (lines_in text) ≡ story_of text
+pub begins : (known : Option RunSizes) (text : TextValue) →
+    story_told known 0 (Some at_first) (lines_in text) ≡ story_of known text
 unfolding story_of
-begins text = refl
+begins known text = refl
 
-pub goes : (n : ℕ) (p q : StoryPlace) (text : TextValue) (texts : List TextValue) (all : Result StoryPlace ℕ)
-    → story_told n (Some p) (text ∷ texts) ≡ all → if_suits p (line_read text) ≡ Some q →
-    story_told (suc n) (Some q) texts ≡ all
-goes n p q text texts all h step = sym (ap (λ o. story_told (suc n) o texts) step) ∙ h
+pub goes : (known : Option RunSizes) (n : ℕ) (p q : StoryPlace) (text : TextValue) (texts : List TextValue)
+    (all : Result StoryPlace ℕ)
+    → story_told known n (Some p) (text ∷ texts) ≡ all → if_suits known p (line_read text) ≡ Some q →
+    story_told known (suc n) (Some q) texts ≡ all
+goes known n p q text texts all h step = sym (ap (λ o. story_told known (suc n) o texts) step) ∙ h
 
-pub stops : (n : ℕ) (p : StoryPlace) (text : TextValue) (texts : List TextValue) (all : Result StoryPlace ℕ)
-    → story_told n (Some p) (text ∷ texts) ≡ all → if_suits p (line_read text) ≡ None → all ≡ Err (suc n)
-stops n p text texts all h step = sym h ∙ ap (λ o. story_told (suc n) o texts) step
+pub stops : (known : Option RunSizes) (n : ℕ) (p : StoryPlace) (text : TextValue) (texts : List TextValue)
+    (all : Result StoryPlace ℕ)
+    → story_told known n (Some p) (text ∷ texts) ≡ all → if_suits known p (line_read text) ≡ None → all ≡ Err (suc n)
+stops known n p text texts all h step = sym h ∙ ap (λ o. story_told known (suc n) o texts) step
 
-pub at_end : (n : ℕ) (p : StoryPlace) (all : Result StoryPlace ℕ) → story_told n (Some p) [] ≡ all →
-    is_story_head p.stage ≡ false →
+pub at_end : (known : Option RunSizes) (n : ℕ) (p : StoryPlace) (all : Result StoryPlace ℕ) →
+    story_told known n (Some p) [] ≡ all → is_story_head p.stage ≡ false →
     all ≡ Ok p
-at_end n p all h some = sym h ∙ ap (λ b. cond b (Err (suc n)) (Ok p)) some
+at_end known n p all h some = sym h ∙ ap (λ b. cond b (Err (suc n)) (Ok p)) some
 
-pub no_first : (n : ℕ) (p : StoryPlace) (all : Result StoryPlace ℕ) → story_told n (Some p) [] ≡ all →
-    is_story_head p.stage ≡ true →
+pub no_first : (known : Option RunSizes) (n : ℕ) (p : StoryPlace) (all : Result StoryPlace ℕ) →
+    story_told known n (Some p) [] ≡ all → is_story_head p.stage ≡ true →
     all ≡ Err (suc n)
-no_first n p all h none = sym h ∙ ap (λ b. cond b (Err (suc n)) (Ok p)) none
+no_first known n p all h none = sym h ∙ ap (λ b. cond b (Err (suc n)) (Ok p)) none
 
 -- ---- what holds of a place
 
@@ -204,12 +221,15 @@ leads_on p (stop_told s) place h = record {
 }
 
 -- the place after a step
-pub next_place : (p q : StoryPlace) (text : TextValue) → IsPlace p → if_suits p (line_read text) ≡ Some q → IsPlace q
-next_place p q text place step = by_line (line_read text) step
+pub next_place : (known : Option RunSizes) (p q : StoryPlace) (text : TextValue) → IsPlace p →
+    if_suits known p (line_read text) ≡ Some q → IsPlace q
+next_place known p q text place step = by_line (line_read text) step
   where
-    by_test : (line : ReportLine) (b : Bool) → suits_story p line ≡ b →
+    by_test : (line : ReportLine) (b : Bool) → (fits_mission known line && suits_story p line) ≡ b →
         cond b (Some (story_after p line)) None ≡ Some q → IsPlace q
-    by_test line true fit e = subst IsPlace (place_is (story_after p line) e) (leads_on p line place fit)
+    by_test line true fit e =
+        subst IsPlace (place_is (story_after p line) e)
+        (leads_on p line place (both (fits_mission known line) (suits_story p line) fit).1)
       where
         place_is : (x : StoryPlace) → Some x ≡ Some q → x ≡ q
         place_is x h = cc
@@ -218,9 +238,9 @@ next_place p q text place step = by_line (line_read text) step
         none_some : None ≡ Some q → ⊥
         none_some h = cc
 
-    by_line : (o : Option ReportLine) → if_suits p o ≡ Some q → IsPlace q
+    by_line : (o : Option ReportLine) → if_suits known p o ≡ Some q → IsPlace q
     by_line None e = absurd (none_some e)
       where
         none_some : None ≡ Some q → ⊥
         none_some h = cc
-    by_line (Some line) e = by_test line (suits_story p line) refl e
+    by_line (Some line) e = by_test line (fits_mission known line && suits_story p line) refl e

@@ -5,6 +5,7 @@ use Rattle.guards_audit.specs.Lines.{ReportLine, stop_told}
 use Rattle.guards_audit.specs.Reading.{line_read}
 use Rattle.run_audit.specs.declared.line.Sizes.{Sizes}
 use Rattle.run_audit.specs.Values.{IsInUse}
+use Rattle.report_story.specs.declared.reader.RunSizes.{RunSizes}
 use Rattle.report_story.specs.declared.reading.BadReport.{BadReport}
 use Rattle.report_story.specs.declared.reading.BadReport.TheVariants as bad
 use Rattle.report_story.specs.Places.{StoryPlace, is_story_amid, is_story_head, suits_story, story_after, if_suits, story_of}
@@ -21,9 +22,9 @@ pub record IsPlace (p : StoryPlace) : Type 0 where
   pub told : length p.told ≤ p.cycles
 
 -- a line was taken where it may come, and the place is the one after it; and else it may not
-abbrev pub StepsStory : StoryPlace → TextValue → Bool → StoryPlace → Type 0
-StepsStory p text true q = if_suits p (line_read text) ≡ Some q
-StepsStory p text false q = if_suits p (line_read text) ≡ None
+abbrev pub StepsStory : Option RunSizes → StoryPlace → TextValue → Bool → StoryPlace → Type 0
+StepsStory known p text true q = if_suits known p (line_read text) ≡ Some q
+StepsStory known p text false q = if_suits known p (line_read text) ≡ None
 
 -- no line that the text spells may come here, but for a stop
 abbrev pub OnlyStops : StoryPlace → TextValue → Type 0
@@ -32,7 +33,7 @@ OnlyStops p text =
     suits_story p line ≡ false
 
 -- what reading a report answers: what it tells, or its first line that may not come where it stands
-abbrev pub TellsStory : TextValue → Result StoryPlace BadReport → Type 0
-TellsStory text (Ok p) = (story_of text ≡ Ok p) × IsPlace p
-TellsStory text (Err (bad.Line line)) = story_of text ≡ Err line
-TellsStory text (Err bad.Memory) = Unit {0}
+abbrev pub TellsStory : Option RunSizes → TextValue → Result StoryPlace BadReport → Type 0
+TellsStory known text (Ok p) = (story_of known text ≡ Ok p) × IsPlace p
+TellsStory known text (Err (bad.Line line)) = story_of known text ≡ Err line
+TellsStory known text (Err bad.Memory) = Unit {0}

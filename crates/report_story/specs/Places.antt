@@ -10,6 +10,7 @@ use Rattle.run_audit.specs.declared.line.Sizes.{Sizes}
 use Rattle.picture_marks.specs.declared.facts.CycleFacts.{CycleFacts}
 use Rattle.picture_marks.specs.declared.facts.End.{End}
 use Rattle.picture_marks.specs.declared.facts.End.TheVariants as ending
+use Rattle.report_story.specs.declared.reader.RunSizes.{RunSizes}
 use Rattle.report_story.specs.declared.reader.Stage.{Stage}
 use Rattle.report_story.specs.declared.reader.Stage.TheVariants as stage
 
@@ -116,6 +117,14 @@ suits_story p (out_told words) = is_story_ended p.stage && story_words_fit p.siz
 suits_story p (done_told m) = is_between p.stage && (m == p.cycles && length p.told == p.cycles)
 suits_story p (stop_told s) = is_between p.stage && (s.cycle == length p.told && nat_lt s.cycle p.cycles)
 
+-- where the mission is known, the report has its channels and cycles, and as many inputs and outputs
+abbrev pub fits_mission : Option RunSizes → ReportLine → Bool
+fits_mission None line = true
+fits_mission (Some known) (head_told n m) = n == known.sizes.channels && m == known.cycles
+fits_mission (Some known) (channel_told l) =
+    length l.inputs == known.sizes.width && length l.votes == known.sizes.outputs
+fits_mission (Some known) line = true
+
 -- ---- what is told after it
 
 abbrev pub story_sizes : StoryPlace → LineValue → Sizes
@@ -153,17 +162,18 @@ at_first =
     }
 
 -- the place after a line, if it is one that may come here
-abbrev pub if_suits : StoryPlace → Option ReportLine → Option StoryPlace
-if_suits p None = None
-if_suits p (Some line) = if suits_story p line then Some (story_after p line) else None
+abbrev pub if_suits : Option RunSizes → StoryPlace → Option ReportLine → Option StoryPlace
+if_suits known p None = None
+if_suits known p (Some line) =
+    if fits_mission known line && suits_story p line then Some (story_after p line) else None
 
 -- What the lines tell after so many others, or the number of the first line that may not come where it stands. A report
 -- has a first line.
-abbrev pub story_told : ℕ → Option StoryPlace → List TextValue → Result StoryPlace ℕ
-story_told n None texts = Err n
-story_told n (Some p) [] = if is_story_head p.stage then Err (suc n) else Ok p
-story_told n (Some p) (text ∷ texts) = story_told (suc n) (if_suits p (line_read text)) texts
+abbrev pub story_told : Option RunSizes → ℕ → Option StoryPlace → List TextValue → Result StoryPlace ℕ
+story_told known n None texts = Err n
+story_told known n (Some p) [] = if is_story_head p.stage then Err (suc n) else Ok p
+story_told known n (Some p) (text ∷ texts) = story_told known (suc n) (if_suits known p (line_read text)) texts
 
--- what a report tells
-unfoldable pub story_of : TextValue → Result StoryPlace ℕ
-story_of text = story_told 0 (Some at_first) (lines_in text)
+-- what a report tells, of a mission that is known or of any
+unfoldable pub story_of : Option RunSizes → TextValue → Result StoryPlace ℕ
+story_of known text = story_told known 0 (Some at_first) (lines_in text)

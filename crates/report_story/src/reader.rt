@@ -4,13 +4,20 @@ ghost use Rattle.guards_model.specs.Missions.{within};
 ghost use Rattle.guards_model.specs.Records.{shown_line, transfer_of_pair};
 ghost use Rattle.guards_audit.specs.Lines.{if_there, channel_told, cycle_told, done_told, end_told, head_told, out_told, steps_told, stop_told};
 ghost use Rattle.run_audit.specs.Values.{IsInUse, line_value};
-ghost use Rattle.report_story.specs.Places.{story_after, at_first, begun_story, line_comes_next, ended_story, filled, is_story_amid, is_between, is_story_ended, is_story_head, line_fits, sizes_fit, suits_story, with_story_line, story_words_fit};
+ghost use Rattle.report_story.specs.Places.{story_after, at_first, begun_story, line_comes_next, ended_story, filled, fits_mission, is_story_amid, is_between, is_story_ended, is_story_head, line_fits, sizes_fit, suits_story, with_story_line, story_words_fit};
 
 use guards_base::{Chan, ChanSet, ChannelLine, Slot};
 use picture_marks::{CycleFacts, End};
 use run_audit::{Line, Sizes};
 use std::alloc::{AllocError, Global};
 use std::marker::Model;
+
+/// How many cycles a mission has, and the sizes of the lines of its reports.
+#[derive(Clone, Copy)]
+pub struct RunSizes {
+    pub cycles: u32,
+    pub sizes: Sizes,
+}
 
 /// Where the next line stands.
 #[derive(Clone, Copy)]
@@ -258,6 +265,26 @@ fn prove_lengths(line: &ChannelLine, sizes: Sizes)
     prove_inputs(&line.inputs, sizes.width);
     prove_votes(&line.votes, sizes.outputs);
     prove_counts(&line.alphas, sizes.channels);
+}
+
+/// Whether a line may be one of a report of the mission, where that is known.
+pub(crate) fn fits_mission(known: Option<RunSizes>, line: &Line, sizes: Sizes) -> bool
+    requires { IsInUse sizes }
+    ensures { result ≡ fits_mission known (line_value sizes line.now) }
+{
+    let Some(known) = known else {
+        return true;
+    };
+    match line {
+        Line::Head { channels, cycles } => {
+            *channels == known.sizes.channels && *cycles == known.cycles
+        }
+        Line::Channel(line) => {
+            prove_lengths(line, sizes);
+            sizes.width == known.sizes.width && sizes.outputs == known.sizes.outputs
+        }
+        _ => true,
+    }
 }
 
 impl Reader {

@@ -1,8 +1,9 @@
 //! Reads a report, line by line.
-ghost use Rattle.std.specs.Prelude.{◌<◌, ◌^◌, length, IfOk};
+ghost use Rattle.std.specs.Prelude.{◌<◌, ◌^◌, length, Option, IfOk};
+ghost use Rattle.report_story.specs.declared.reader.RunSizes.{RunSizes};
 ghost use Rattle.report_story.specs.Answers.{IsPlace, OnlyStops, StepsStory, TellsStory};
 
-use crate::reader::Reader;
+use crate::reader::{Reader, RunSizes, fits_mission};
 use crate::sizes::read_sized;
 use crate::stop::read_stop;
 use run_audit::line_len;
@@ -28,10 +29,11 @@ impl From<AllocError> for BadReport {
     }
 }
 
-/// Takes a line as a stop, and answers whether it may come here.
+/// Takes a line as a stop, which any report may have, and answers whether it may come here.
 fn take_stop(alloc: Global, reader: &mut Reader, bytes: &[u8]) -> Result<bool, AllocError>
     requires { OnlyStops reader.old bytes.now }
-    ensures { IfOk result (λ fits. StepsStory reader.old bytes.now fits reader.new) }
+    ensures { (known : Option RunSizes) →
+        IfOk result (λ fits. StepsStory known reader.old bytes.now fits reader.new) }
 {
     match read_stop(alloc, bytes)? {
         Some(stop) => Ok(reader.take_stop(stop.cycle, stop.slot, stop.set, stop.active)),
@@ -40,27 +42,41 @@ fn take_stop(alloc: Global, reader: &mut Reader, bytes: &[u8]) -> Result<bool, A
 }
 
 /// Takes a line, and answers whether it may come here.
-fn take(alloc: Global, reader: &mut Reader, bytes: &[u8]) -> Result<bool, AllocError>
+fn take(
+    alloc: Global,
+    known: Option<RunSizes>,
+    reader: &mut Reader,
+    bytes: &[u8],
+) -> Result<bool, AllocError>
     requires { IsPlace reader.old }
-    ensures { IfOk result (λ fits. StepsStory reader.old bytes.now fits reader.new) }
+    ensures { IfOk result (λ fits. StepsStory known reader.old bytes.now fits reader.new) }
 {
     match read_sized(alloc, bytes, reader.channels, reader.sizes)? {
-        Some(read) => reader.take(&read.line, read.sizes),
+        Some(read) => {
+            if !fits_mission(known, &read.line, read.sizes) {
+                return Ok(false);
+            }
+            reader.take(&read.line, read.sizes)
+        }
         None => take_stop(alloc, reader, bytes),
     }
 }
 
-/// What a report tells: all its lines, one after the other, from the first on.
-pub fn read_report(alloc: Global, report: &[u8]) -> Result<Reader, BadReport>
+/// What a report tells, of a mission that is known or of any: all its lines, one after the other, from the first on.
+pub fn read_report(
+    alloc: Global,
+    known: Option<RunSizes>,
+    report: &[u8],
+) -> Result<Reader, BadReport>
     requires { length report.now < 2 ^ 31 }
-    ensures { TellsStory report.now result }
+    ensures { TellsStory known report.now result }
 {
     let mut reader = Reader::new(alloc);
     let mut rest = report;
     let mut lines = 0;
     while !rest.is_empty() {
         let (now, more) = rest.split_at(line_len(rest));
-        if !take(alloc, &mut reader, now)? {
+        if !take(alloc, known, &mut reader, now)? {
             return Err(BadReport::Line(lines + 1));
         }
         lines += 1;

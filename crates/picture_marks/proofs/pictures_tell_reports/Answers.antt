@@ -3,4 +3,4 @@ use Rattle.picture_marks.proofs.MarksReadBack.{all_read}
 use Rattle.picture_marks.proofs.pictures_tell_reports.Goals as goal
 
 pub returns : goal.returns
-returns c = λ channels outputs told lane at. all_read told lane at (lanes_of channels outputs)
+returns c = λ limits channels outputs told lane at. all_read limits told lane at (lanes_of channels outputs)

@@ -8,4 +8,4 @@ abbrev pub invariant-loop-place : goal.invariant-loop-place
 invariant-loop-place l =
     l.lanes.items
     ≡ flat_map channel_lanes (range_with_len 0 l.channels)
-    ++ lane.Remaining ∷ map (λ k. lane.Output k) (range_with_len 0 l.place)
+    ++ lane.Remaining ∷ lane.Final ∷ map (λ k. lane.Output k) (range_with_len 0 l.place)

@@ -7,7 +7,7 @@ use Rattle.report_story.proofs.reading.read_report.Given as goal
 -- what the rest tells from the place so far is what all lines tell, and no more lines were read than bytes
 abbrev pub invariant-loop-rest : goal.invariant-loop-rest
 invariant-loop-rest l = record {
-  told : story_told l.lines (Some l.reader) (lines_in l.rest) ≡ story_of l.fn.report;
+  told : story_told l.known l.lines (Some l.reader) (lines_in l.rest) ≡ story_of l.known l.fn.report;
   place : IsPlace l.reader;
   few : l.lines + length l.rest ≤ length l.fn.report;
 }
