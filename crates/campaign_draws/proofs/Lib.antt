@@ -1,3 +1,4 @@
 pub mod Drawn
 pub mod Passing
 pub mod Kept
+pub mod Entries

@@ -1,4 +1,4 @@
-//! The faults of the runs of a campaign, drawn from a number.
+//! The faults of the runs of a campaign, drawn from a number, and the missions with them.
 #![tactic(auto)]
 
 ghost use Rattle.std.specs.Prelude.{◌≡◌, ◌≤◌, ℕ, None};
@@ -8,11 +8,13 @@ ghost use Rattle.campaign_draws.specs.Drawing.{SizesValue, drawn_faults};
 
 mod draws;
 mod entries;
+mod mission;
 mod rates;
 mod script;
 mod sizes;
 
 pub use draws::Draws;
+pub use mission::drawn_mission;
 pub use rates::Rates;
 pub use script::drawn_script;
 pub use sizes::Sizes;

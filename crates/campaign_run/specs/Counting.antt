@@ -16,6 +16,7 @@ use Rattle.run_laws.specs.Runs.{HasCarried, HasRunCycles, HasRunToStop, HasRunPa
 use Rattle.campaign_facts.specs.Facts.{facts_of}
 use Rattle.campaign_facts.specs.Tallies.{TallyValue, tally_of}
 use Rattle.campaign_text.specs.Rows.{row_text}
+use Rattle.campaign_text.specs.Summaries.{RunValue}
 use Rattle.world_run.specs.Running.{stop_value}
 
 -- what is counted of the first n cycles of a log
@@ -45,11 +46,20 @@ module _ (may : List RuleValue → EntryValue → Type 0) (M : MissionValue) whe
 
 -- ---- the row of a run
 
--- A text is the row of the mission's run over a bus that does what the script says: all its cycles ran, or those before a stop
+-- what is told of a run: what was counted of the first n cycles of its log, and its stop, if there was one
+abbrev pub told_of : MissionValue → Log → ℕ → Option StopValue → RunValue
+told_of M L n stop = record { counts = counted M L n; stop = stop }
+
+-- So is told a run of the mission over a bus that does what the script says: all its cycles ran, or those before a stop
 -- and its own up to the end of its slot, and what is told are the facts of these.
-abbrev pub TellsRun : MissionValue → ℕ → ℕ → Option ℕ → TextValue → Type 0
-TellsRun M run state bound text =
+abbrev pub IsToldRun : MissionValue → RunValue → Type 0
+IsToldRun M told =
     (L : Log) × (histories : Histories) × AllByRecursion (IsScripted (bus_rules M)) L
-    × ((HasRunCycles M M.cycles L histories × (text ≡ row_text run state M.script (counted M L M.cycles) None bound))
+    × ((HasRunCycles M M.cycles L histories × (told ≡ told_of M L M.cycles None))
     ⊎ ((stop : StopValue) × HasRunToStop M stop.cycle stop L histories
-    × (text ≡ row_text run state M.script (counted M L stop.cycle) (Some stop) bound)))
+    × (told ≡ told_of M L stop.cycle (Some stop))))
+
+-- a text is the row of such a run
+abbrev pub TellsRun : MissionValue → ℕ → ℕ → Option ℕ → RunValue → TextValue → Type 0
+TellsRun M run state bound told text =
+    IsToldRun M told × (text ≡ row_text run state M.script told.counts told.stop bound)

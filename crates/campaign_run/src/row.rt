@@ -38,8 +38,16 @@ fn ended(ran: Result<(), Halt>) -> Result<Option<Stop>, AllocError>
     }
 }
 
+/// The row of a run, what was counted of it, and how it stopped, if it did.
+#[derive(Debug, Drop)]
+pub(crate) struct Row {
+    pub text: String,
+    pub tally: Tally,
+    pub stop: Option<Stop>,
+}
+
 /// Runs a mission over a bus of its own that does what its script says, and tells the run by its row.
-pub fn run_row<G: Gate, C: Calls + Sync, R: Threads + Wait + Sync>(
+pub(crate) fn run_row<G: Gate, C: Calls + Sync, R: Threads + Wait + Sync>(
     rt: &R,
     alloc: Global,
     run: u32,
@@ -48,8 +56,9 @@ pub fn run_row<G: Gate, C: Calls + Sync, R: Threads + Wait + Sync>(
     mission: Mission,
     gate: &G,
     natives: &C,
-) -> Result<String, AllocError>
-    ensures { IfOk result (λ text. TellsRun mission run state bound (string_bytes text)) }
+) -> Result<Row, AllocError>
+    ensures { IfOk result (λ row. TellsRun mission run state bound
+        (record { counts = row.tally; stop = row.stop }) (string_bytes row.text)) }
 {
     mission.prove_mission();
     let mut bus = ScriptBus::empty(alloc);
@@ -67,5 +76,5 @@ pub fn run_row<G: Gate, C: Calls + Sync, R: Threads + Wait + Sync>(
         &stop,
         bound,
     )?;
-    Ok(text)
+    Ok(Row { text, tally, stop })
 }

@@ -93,7 +93,7 @@ fn length_text(alloc: Global, length: u32) -> Result<String, AllocError>
     format!(in alloc; "{length}")
 }
 
-fn bound_text(alloc: Global, bound: Option<u32>) -> Result<String, AllocError>
+pub(crate) fn bound_text(alloc: Global, bound: Option<u32>) -> Result<String, AllocError>
     ensures { IfOk result (λ text. string_bytes text ≡ bound_text bound) }
 {
     let Some(cycles) = bound else {
