@@ -1,13 +1,11 @@
 //! The call of a campaign: its words, its source and its sink.
 #![tactic(auto)]
 
-mod limit;
 mod lines;
 mod request;
 mod status;
 mod top;
 
-pub use limit::LIMIT;
 pub use request::{Request, read_request};
-pub use status::Status;
+pub use status::CampaignStatus;
 pub use top::campaign;

@@ -1,5 +1,5 @@
 //! The words of a campaign.
-ghost use Rattle.std.specs.Prelude.{◌≡◌};
+ghost use Rattle.std.specs.Prelude.{◌≡◌, ◌≤◌, IfSome};
 ghost use Rattle.std.specs.Char.{is_ascii_digit};
 ghost use Rattle.std.specs.List.{list_all};
 ghost use Rattle.command_line.specs.Commands.{is_number, number_of};
@@ -46,7 +46,8 @@ fn number_of(text: &str) -> Option<u64>
 /// The number of a text, where it is from low to high.
 #[tactic(auto, unfolding(crate::specs::Requests::number_within))]
 fn number_within(low: u64, high: u64, text: &str) -> Option<u64>
-    ensures { result ≡ number_within low high text.now }
+    ensures value { result ≡ number_within low high text.now }
+    ensures most { IfSome result (λ number. number ≤ high) }
 {
     match number_of(text) {
         Some(number) if low <= number && number <= high => Some(number),
@@ -88,7 +89,8 @@ fn rates_of(crash: &str, damage: &str, lose: &str, forge: &str) -> Option<Rates>
 }
 
 fn runs_of(text: &str) -> Option<u32>
-    ensures { result ≡ number_within 1 10000 text.now }
+    ensures value { result ≡ number_within 1 10000 text.now }
+    ensures most { IfSome result (λ runs. runs ≤ 10000) }
 {
     match number_within(1, 10_000, text) {
         Some(number) => Some(number as u32),
@@ -105,7 +107,8 @@ fn request_of_six(
     lose: &str,
     forge: &str,
 ) -> Option<Request>
-    ensures { result ≡ request_of_six state.now runs.now crash.now damage.now lose.now forge.now }
+    ensures value { result ≡ request_of_six state.now runs.now crash.now damage.now lose.now forge.now }
+    ensures few { IfSome result (λ request. request.runs ≤ 10000) }
 {
     let Some(state) = number_of(state) else {
         return None;
@@ -122,7 +125,8 @@ fn request_of_six(
 /// The campaign that the words ask for: a number of one to twenty digits below two to the 64th, how many runs, 1 to 10,000, and
 /// the rates of crashes, damages, losses and forgeries, each up to 1,000,000. No other list of words asks for one.
 pub fn read_request(words: &Words) -> Option<Request>
-    ensures { result ≡ request_of words.now.items }
+    ensures value { result ≡ request_of words.now.items }
+    ensures few { IfSome result (λ request. request.runs ≤ 10000) }
 {
     match words.as_slice() {
         [state, runs, crash, damage, lose, forge] => request_of_six(

@@ -1,31 +1,27 @@
-//! What came of a campaign.
+//! What came of a call.
+ghost use Rattle.std.specs.Prelude.{◌≡◌};
+ghost use Rattle.campaign_call.specs.Outcomes.{campaign_code};
 
-/// What came of a campaign.
-#[derive(Clone, Copy, Debug, PartialEq, Eq)]
-pub enum Status {
-    Done,
-    Usage,
-    /// The bytes are no mission.
-    NoMission,
+use mission_check::Status;
+
+/// What came of a call.
+#[derive(Debug, Drop)]
+pub enum CampaignStatus {
     /// The mission has faults of its own.
     HasFaults,
-    TooLong,
-    ReadFault,
-    WriteFault,
-    NoMemory,
+    /// As `guards` ends: all was written, or wrong words, bytes that are no mission, a fault of the source or the sink,
+    /// or want of memory.
+    Ended(Status),
 }
 
-impl Status {
+impl CampaignStatus {
     /// The exit status of the program.
-    pub fn code(self) -> u8 {
+    pub fn code(&self) -> u8
+        ensures { result ≡ campaign_code self.now }
+    {
         match self {
-            Status::Done => 0,
-            Status::Usage => 2,
-            Status::NoMission | Status::HasFaults => 3,
-            Status::TooLong => 4,
-            Status::ReadFault => 5,
-            Status::WriteFault => 6,
-            Status::NoMemory => 8,
+            CampaignStatus::HasFaults => 3,
+            CampaignStatus::Ended(status) => status.code(),
         }
     }
 }

@@ -1,60 +1,34 @@
-//! The top call of a campaign.
-ghost use Rattle.campaign_call.specs.Outcomes.{Answers, AnswersBytes, EndsWith, IsSortOf, Outcome, Sorts};
+//! The top call: all that the program does.
+ghost use Rattle.std.specs.Prelude.{◌≡◌, ◌≤◌, ◌==◌, length, Ok};
+ghost use Rattle.mission_text.specs.Mission.{mission_of};
+ghost use Rattle.campaign_call.specs.Outcomes.{AnswersBytes, AnswersMission, CampaignCompletes, CampaignOutcome, status_of};
 ghost use Rattle.campaign_call.specs.Requests.{request_of};
 
-use crate::limit::LIMIT;
-use crate::lines::{faults_line, long_line, no_mission_line, read_line, usage_line};
+use crate::lines::{faults_line, usage_line};
 use crate::request::{Request, read_request};
-use crate::status::Status;
+use crate::status::CampaignStatus;
 use campaign_run::run_campaign;
 use ctx_lock::Gate;
-use document_checks::ReadFault;
 use fault_script::Script;
 use guards_base::Words;
-use guards_io::{ReadStop, Sink, Source, WriteStop, read_all};
-use mission_text::read;
+use guards_io::{Sink, Source, WriteStop, put_line};
+use mission_check::{Status, read_bytes, take_bytes};
+use mission_type::Mission;
 use native_calls::Calls;
 use std::alloc::Global;
 use std::sync::Wait;
 use std::thread::Threads;
-use world_run::put_line;
 
-/// What the bytes of a source are.
-enum Sort {
-    /// A mission without faults.
-    Faultless,
-    /// A mission with faults.
-    Faulty,
-    NoMissionAtAll,
-    /// Memory ran out before it was known.
-    Unknown,
-}
-
-/// What the bytes are.
-fn sort_of(alloc: Global, bytes: &[u8]) -> Sort
-    ensures { Sorts bytes.now result }
+/// Whether a script has no entry.
+fn is_empty(script: &Script) -> bool
+    ensures { result ≡ (length script.now == 0) }
 {
-    match read(alloc, bytes) {
-        Ok(mission) => faultless(mission.script()),
-        Err(ReadFault::Bad(_)) => Sort::NoMissionAtAll,
-        Err(_) => Sort::Unknown,
-    }
-}
-
-/// Whether a script has entries.
-fn faultless(script: &Script) -> Sort
-    ensures { IsSortOf script.now result }
-{
-    if script.rules().is_empty() && script.others().is_empty() {
-        Sort::Faultless
-    } else {
-        Sort::Faulty
-    }
+    script.rules().is_empty() && script.others().is_empty()
 }
 
 /// The status of a campaign that was run.
 fn ended(ran: Result<(), WriteStop>) -> Status
-    ensures { EndsWith ran result }
+    ensures { result ≡ status_of ran }
 {
     match ran {
         Ok(()) => Status::Done,
@@ -63,40 +37,29 @@ fn ended(ran: Result<(), WriteStop>) -> Status
     }
 }
 
-/// Runs the campaign of a mission without faults, or refuses the bytes.
-fn answer_bytes<K: Sink, G: Gate, C: Calls + Sync, R: Threads + Wait + Sync>(
+/// Runs the campaign of a mission without faults.
+fn answer_mission<K: Sink, G: Gate, C: Calls + Sync, R: Threads + Wait + Sync>(
     rt: &R,
     alloc: Global,
     request: &Request,
     bytes: &[u8],
+    mission: &Mission,
     out: &mut K,
     gate: &G,
     natives: &C,
-) -> Status
-    ensures { AnswersBytes request.now bytes.now (K.seen out.old) (K.seen out.new) result }
+) -> CampaignStatus
+    requires read { mission_of bytes.now ≡ Ok mission.now }
+    requires few { request.now.runs ≤ 10000 }
+    ensures { AnswersMission request.now mission.now (K.seen out.old) (K.seen out.new) result }
 {
-    match sort_of(alloc, bytes) {
-        Sort::Faultless => ended(run_campaign(
-            rt,
-            alloc,
-            bytes,
-            request.rates,
-            request.state,
-            request.runs,
-            out,
-            gate,
-            natives,
-        )),
-        Sort::Faulty => {
-            put_line(out, faults_line());
-            Status::HasFaults
-        }
-        Sort::NoMissionAtAll => {
-            put_line(out, no_mission_line());
-            Status::NoMission
-        }
-        Sort::Unknown => Status::NoMemory,
+    if !is_empty(mission.script()) {
+        put_line(out, faults_line());
+        return CampaignStatus::HasFaults;
     }
+    let (rates, state, runs) = (request.rates, request.state, request.runs);
+    CampaignStatus::Ended(ended(run_campaign(
+        rt, alloc, bytes, mission, rates, state, runs, out, gate, natives,
+    )))
 }
 
 /// Reads the source to its end, and answers its bytes.
@@ -108,26 +71,45 @@ fn answer<S: Source, K: Sink, G: Gate, C: Calls + Sync, R: Threads + Wait + Sync
     out: &mut K,
     gate: &G,
     natives: &C,
-) -> Status
-    ensures { Answers request.now (S.seen src.old) (S.seen src.new)
-        (K.seen out.old) (K.seen out.new) result }
+) -> CampaignStatus
+    requires few { request.now.runs ≤ 10000 }
+    ensures { AnswersBytes request.now (S.seen src.old) (S.seen src.new) (K.seen out.old) (K.seen out.new) result }
 {
-    match read_all(alloc, src, LIMIT) {
-        Ok(bytes) => answer_bytes(rt, alloc, request, bytes.as_slice(), out, gate, natives),
-        Err(ReadStop::Failed) => {
-            put_line(out, read_line());
-            Status::ReadFault
-        }
-        Err(ReadStop::TooLong) => {
-            put_line(out, long_line());
-            Status::TooLong
-        }
-        Err(ReadStop::Memory) => Status::NoMemory,
+    let bytes = match take_bytes(alloc, src, out) {
+        Ok(bytes) => bytes,
+        Err(status) => return CampaignStatus::Ended(status),
+    };
+    let given = bytes.as_slice();
+    match read_bytes(alloc, given, out) {
+        Ok(mission) => answer_mission(rt, alloc, request, given, &mission, out, gate, natives),
+        Err(status) => CampaignStatus::Ended(status),
     }
 }
 
-/// Does all that the program does: it reads a mission without faults, draws a script of faults for each run, runs the mission with
-/// it, and writes a row for each. It may wait, so that it returns is not promised.
+fn carry_out<S: Source, K: Sink, G: Gate, C: Calls + Sync, R: Threads + Wait + Sync>(
+    rt: &R,
+    alloc: Global,
+    words: &Words,
+    src: &mut S,
+    out: &mut K,
+    gate: &G,
+    natives: &C,
+) -> CampaignStatus
+    ensures { CampaignOutcome (request_of words.now.items) (S.seen src.old) (S.seen src.new) (K.seen out.old)
+        (K.seen out.new) result }
+{
+    match read_request(words) {
+        Some(request) => answer(rt, alloc, &request, src, out, gate, natives),
+        None => {
+            put_line(out, usage_line());
+            CampaignStatus::Ended(Status::Usage)
+        }
+    }
+}
+
+/// Does all that the program does: it reads a mission without faults, draws a script of faults for each run, runs the
+/// mission with it, and writes a row for each, and then the lines of their summary. It may wait, so that it returns is
+/// not promised.
 pub fn campaign<S: Source, K: Sink, G: Gate, C: Calls + Sync, R: Threads + Wait + Sync>(
     rt: &R,
     alloc: Global,
@@ -136,15 +118,11 @@ pub fn campaign<S: Source, K: Sink, G: Gate, C: Calls + Sync, R: Threads + Wait 
     out: &mut K,
     gate: &G,
     natives: &C,
-) -> Status
-    ensures { Outcome (request_of words.now.items) (S.seen src.old) (S.seen src.new)
+) -> CampaignStatus
+    ensures outcome { CampaignOutcome (request_of words.now.items) (S.seen src.old) (S.seen src.new) (K.seen out.old)
+        (K.seen out.new) result }
+    ensures completes { CampaignCompletes (request_of words.now.items) (S.seen src.old) (S.seen src.new)
         (K.seen out.old) (K.seen out.new) result }
 {
-    match read_request(words) {
-        Some(request) => answer(rt, alloc, &request, src, out, gate, natives),
-        None => {
-            put_line(out, usage_line());
-            Status::Usage
-        }
-    }
+    carry_out(rt, alloc, words, src, out, gate, natives)
 }

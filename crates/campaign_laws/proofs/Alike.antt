@@ -24,8 +24,9 @@ use Rattle.campaign_draws.specs.Drawing.{drawn_mission, run_mission, sizes_of, s
 use Rattle.campaign_facts.specs.Facts.{PastFacts, facts_of}
 use Rattle.campaign_facts.specs.Tallies.{tally_of}
 use Rattle.campaign_text.specs.Rows.{row_text}
-use Rattle.campaign_run.specs.Counting.{TellsRun, counted}
-use Rattle.campaign_run.specs.Campaigns.{AreRows, bound_of}
+use Rattle.campaign_text.specs.Summaries.{RunValue, summary_text, totals_of}
+use Rattle.campaign_run.specs.Counting.{IsToldRun, TellsRun, counted}
+use Rattle.campaign_run.specs.Campaigns.{AreRows, IsCampaign, bound_of}
 use Rattle.campaign_laws.proofs.Forging.{forges_no_sweep}
 
 -- ---- a run that came to its end
@@ -76,57 +77,87 @@ facts_without (e ∷ past) = ap (λ (fs : PastFacts). facts_of (e ∷ []) ++ fs)
 same_facts : (P R : Past) → HaveSameFacts P R → facts_of P ≡ facts_of R
 same_facts P R same = sym (facts_without P) ∙ ap facts_of same ∙ facts_without R
 
-module _ (M : MissionValue) (run state : ℕ) (bound : Option ℕ) where
-  abbrev row_for : Past → Option StopValue → TextValue
-  row_for past stop = row_text run state M.script (tally_of M.script (facts_of past)) stop bound
+-- what is told of a run, by the cycles that are told and the stop
+abbrev told_by : MissionValue → Past → Option StopValue → RunValue
+told_by M past stop = record { counts = tally_of M.script (facts_of past); stop = stop }
 
-  -- a run that came to its end, and its row
-  pub record IsTold (text : TextValue) : Type 0 where
-    pub log : Log
-    pub run_is : IsScriptedRun M log
-    pub row : text ≡ row_for (told_cycles (cycles_before M log M.cycles)) (stop_of (cycles_before M log M.cycles))
+module _ (M : MissionValue) where
+  -- a run that came to its end, and what is told of it
+  record IsTold (run : RunValue) : Type 0 where
+    log : Log
+    run_is : IsScriptedRun M log
+    told_is : run ≡ told_by M (told_cycles (cycles_before M log M.cycles)) (stop_of (cycles_before M log M.cycles))
 
-  is_told : (text : TextValue) → TellsRun M run state bound text → IsTold text
+  is_told : (run : RunValue) → IsToldRun M run → IsTold run
   unfolding counted
-  is_told text (L, histories, each, inl (cycles, is)) =
+  is_told run (L, histories, each, inl (cycles, is)) =
       let all = cycles_before M L M.cycles in
       let cycles_are : told_cycles all ≡ all = told_whole all cycles.unstopped in
       record {
         log = L;
         run_is = whole_ends M L histories each cycles;
-        row = is ∙ ap (λ (past : Past). row_for past None) (sym cycles_are) ∙ ap (row_for (told_cycles all)) (sym cycles.unstopped);
+        told_is = is ∙ ap (λ (past : Past). told_by M past None) (sym cycles_are)
+            ∙ ap (told_by M (told_cycles all)) (sym cycles.unstopped);
       }
-  is_told text (L, histories, each, inr (stop, to, is)) =
+  is_told run (L, histories, each, inr (stop, to, is)) =
       let all = cycles_before M L M.cycles in
       let some : M.cycles ≡ stop.cycle + suc (M.cycles - stop.cycle - 1) = omega (arith, to.within) in
-      let cycles_are : told_cycles all ≡ cycles_before M L stop.cycle = told M L stop.cycle stop to.unstopped to.stopped (M.cycles - stop.cycle - 1) M.cycles some in
-      let stop_is : stop_of all ≡ Some stop = stop_stays M L stop.cycle stop to.unstopped to.stopped (M.cycles - stop.cycle - 1) M.cycles some in
+      let cycles_are : told_cycles all ≡ cycles_before M L stop.cycle =
+      told M L stop.cycle stop to.unstopped to.stopped (M.cycles - stop.cycle - 1) M.cycles some in
+      let stop_is : stop_of all ≡ Some stop =
+      stop_stays M L stop.cycle stop to.unstopped to.stopped (M.cycles - stop.cycle - 1) M.cycles some in
       record {
         log = L;
         run_is = stop_ends M L histories each stop to;
-        row = is ∙ ap (λ (past : Past). row_for past (Some stop)) (sym cycles_are) ∙ ap (row_for (told_cycles all)) (sym stop_is);
+        told_is = is ∙ ap (λ (past : Past). told_by M past (Some stop)) (sym cycles_are)
+            ∙ ap (told_by M (told_cycles all)) (sym stop_is);
       }
 
-  pub same_rows : ForgesNoSweep (bus_rules M) → (a b : TextValue) → TellsRun M run state bound a → TellsRun M run state bound b → a ≡ b
-  same_rows none a b tells_a tells_b =
-      let one = is_told a tells_a in
-      let two = is_told b tells_b in
+  pub same_told : ForgesNoSweep (bus_rules M) → (a b : RunValue) → IsToldRun M a → IsToldRun M b → a ≡ b
+  same_told none a b told_a told_b =
+      let one = is_told a told_a in
+      let two = is_told b told_b in
       let stops = stops_alike M one.log two.log none one.run_is two.run_is in
       let facts = same_facts _ _ (facts_alike M one.log two.log none one.run_is two.run_is) in
-      one.row
-      ∙ ap (row_for (told_cycles (cycles_before M one.log M.cycles))) stops
-      ∙ ap (λ (fs : PastFacts). row_text run state M.script (tally_of M.script fs) (stop_of (cycles_before M two.log M.cycles)) bound) facts
-      ∙ sym two.row
+      one.told_is
+      ∙ ap (told_by M (told_cycles (cycles_before M one.log M.cycles))) stops
+      ∙ ap (λ (fs : PastFacts).
+      record { counts = tally_of M.script fs; stop = stop_of (cycles_before M two.log M.cycles) }) facts
+      ∙ sym two.told_is
 
-pub rows_alike : (M : MissionValue) (rates : Rates) (x run state : ℕ) (bound : Option ℕ) (a b : TextValue) →
-    TellsRun (drawn_mission M rates x) run state bound a → TellsRun (drawn_mission M rates x) run state bound b → a ≡ b
-rows_alike M rates x run state bound a b = same_rows (drawn_mission M rates x) run state bound (forges_no_sweep M rates x) a b
+  same_rows : (run state : ℕ) (bound : Option ℕ) (s t : RunValue) (a b : TextValue) → s ≡ t →
+      TellsRun M run state bound s a → TellsRun M run state bound t b → a ≡ b
+  same_rows run state bound s t a b same tells_a tells_b =
+      tells_a.1 ∙ ap (λ (r : RunValue). row_text run state M.script r.counts r.stop bound) same ∙ sym tells_b.1
 
-pub texts_alike : (M : MissionValue) (rates : Rates) (x n : ℕ) (a b : TextValue) → AreRows M rates x n a → AreRows M rates x n b → a ≡ b
+pub runs_alike : (M : MissionValue) (rates : Rates) (x : ℕ) (s t : RunValue) → IsToldRun (drawn_mission M rates x) s →
+    IsToldRun (drawn_mission M rates x) t → s ≡ t
+runs_alike M rates x s t = same_told (drawn_mission M rates x) (forges_no_sweep M rates x) s t
+
+pub rows_alike : (M : MissionValue) (rates : Rates) (x run state : ℕ) (bound : Option ℕ) (s t : RunValue)
+    (a b : TextValue) → TellsRun (drawn_mission M rates x) run state bound s a →
+    TellsRun (drawn_mission M rates x) run state bound t b → a ≡ b
+rows_alike M rates x run state bound s t a b one two =
+    same_rows (drawn_mission M rates x) run state bound s t a b (runs_alike M rates x s t one.0 two.0) one two
+
+all_rows_alike : (M : MissionValue) (rates : Rates) (x n : ℕ) (ss ts : List RunValue) (a b : TextValue) →
+    AreRows M rates x n ss a → AreRows M rates x n ts b → (ss ≡ ts) × (a ≡ b)
 unfolding run_mission
-texts_alike M rates x zero a b one two = one ∙ sym two
-texts_alike M rates x (suc n) a b (before, row, rows, tells, is) (before', row', rows', tells', is') =
-    let same_before = texts_alike M rates x n before before' rows rows' in
+all_rows_alike M rates x zero ss ts a b one two = (one.0 ∙ sym two.0, one.1 ∙ sym two.1)
+all_rows_alike M rates x (suc n) ss ts a b (before, row, earlier, told, rows, tells, all, is)
+    (before', row', earlier', told', rows', tells', all', is') =
+    let same_before = all_rows_alike M rates x n earlier earlier' before before' rows rows' in
     let d = state_of (sizes_of M) rates x n in
-    let same_row = rows_alike M rates d n d (bound_of M) row row' tells tells' in
-    is ∙ ap (λ (t : TextValue). t ++ row) same_before ∙ ap (λ (t : TextValue). before' ++ t) same_row ∙ sym is'
+    let same_run = runs_alike M rates d told told' tells.0 tells'.0 in
+    let same_row = rows_alike M rates d n d (bound_of M) told told' row row' tells tells' in (
+      all ∙ ap (λ (r : RunValue). r ∷ earlier) same_run ∙ ap (λ (rs : List RunValue). told' ∷ rs) same_before.0
+          ∙ sym all',
+      is ∙ ap (λ (t : TextValue). t ++ row) same_before.1 ∙ ap (λ (t : TextValue). before' ++ t) same_row ∙ sym is',
+    )
+
+pub texts_alike : (M : MissionValue) (rates : Rates) (x n : ℕ) (a b : TextValue) → IsCampaign M rates x n a →
+    IsCampaign M rates x n b → a ≡ b
+texts_alike M rates x n a b (rows, runs, are, is) (rows', runs', are', is') =
+    let same = all_rows_alike M rates x n runs runs' rows rows' are are' in
+    is ∙ ap (λ (t : TextValue). t ++ summary_text (bound_of M) (totals_of runs)) same.1
+    ∙ ap (λ (rs : List RunValue). rows' ++ summary_text (bound_of M) (totals_of rs)) same.0 ∙ sym is'

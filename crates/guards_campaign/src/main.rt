@@ -5,7 +5,7 @@ ghost use Rattle.std.specs.Prelude.{◌≡◌};
 ghost use Rattle.guards_model.specs.declared.Code.TheVariants as codes;
 ghost use Rattle.guards_model.specs.Natives.{native};
 
-use campaign_call::{Status, campaign};
+use campaign_call::{CampaignStatus, campaign};
 use ctx_lock::OpenGate;
 use guards_base::{Text, Words};
 use guards_io::{Sink, Source, StdSink, StdSource};
@@ -43,7 +43,7 @@ fn answer<
     X: Operation + Sync,
     Y: Operation + Sync,
     Z: Operation + Sync,
->(rt: &R, alloc: Global, words: &Words, src: &mut S, out: &mut K, sat: X, mid: Y, ramp: Z) -> Status
+>(rt: &R, alloc: Global, words: &Words, src: &mut S, out: &mut K, sat: X, mid: Y, ramp: Z) -> CampaignStatus
     requires sat { X.computes codes.Sat sat }
     requires mid { Y.computes codes.Mid mid }
     requires ramp { Z.computes codes.Ramp ramp }
@@ -76,7 +76,7 @@ fn main(rt: HostRuntime) -> ExitCode {
                 ensures { result ≡ native Code.Ramp a b c }
             { ramp(a, b, c) },
         ),
-        Err(AllocError) => Status::NoMemory,
+        Err(AllocError) => CampaignStatus::Ended(Status::NoMemory),
     };
     ExitCode::from(status.code())
 }
