@@ -10,10 +10,13 @@ use Rattle.mission_text.specs.Mission.{mission_of}
 use Rattle.mission_check.specs.declared.limit.TheConstants.{MAX_MISSION_BYTES}
 use Rattle.mission_check.specs.declared.status.Status.{Status}
 use Rattle.mission_check.specs.declared.status.Status.TheVariants.{Done, Usage, WriteFault, NoMemory}
-use Rattle.mission_check.specs.Reading.{RefusesBytes, TakesAll}
+use Rattle.mission_check.specs.Reading.{RefusesBytes, TakesAll, Tells}
 use Rattle.mission_check.specs.Statuses.{status_code}
 use Rattle.campaign_run.specs.Campaigns.{Campaigns}
+use Rattle.campaign_draws.specs.declared.rates.Rates.{Rates}
 use Rattle.campaign_call.specs.declared.request.Request.{Request}
+use Rattle.campaign_call.specs.declared.request.Request.TheVariants.{Campaign, Mission}
+use Rattle.campaign_call.specs.Documents.{run_document}
 use Rattle.campaign_call.specs.declared.status.CampaignStatus.{CampaignStatus}
 use Rattle.campaign_call.specs.declared.status.CampaignStatus.TheVariants.{HasFaults, Ended}
 use Rattle.campaign_call.specs.Lines.{campaign_usage, faults_line}
@@ -30,17 +33,22 @@ status_of (Ok _) = Done
 status_of (Err write.Failed) = WriteFault
 status_of (Err write.Memory) = NoMemory
 
--- what running the campaign of a mission does, by the status
-abbrev pub RunsCampaign : Request → MissionValue → SinkView → SinkView → Status → Type 0
-RunsCampaign r M out out' Done = Campaigns M r.rates r.state r.runs out out' (Ok tt)
-RunsCampaign r M out out' WriteFault = Campaigns M r.rates r.state r.runs out out' (Err write.Failed)
-RunsCampaign r M out out' NoMemory = Campaigns M r.rates r.state r.runs out out' (Err write.Memory)
-RunsCampaign r M out out' _ = ⊥
+-- what running a campaign of a mission does, by the status
+abbrev pub RunsCampaign : ℕ → ℕ → Rates → MissionValue → SinkView → SinkView → Status → Type 0
+RunsCampaign state runs rates M out out' Done = Campaigns M rates state runs out out' (Ok tt)
+RunsCampaign state runs rates M out out' WriteFault = Campaigns M rates state runs out out' (Err write.Failed)
+RunsCampaign state runs rates M out out' NoMemory = Campaigns M rates state runs out out' (Err write.Memory)
+RunsCampaign state runs rates M out out' _ = ⊥
 
--- What the call does with a mission: where it has faults of its own they are told, and else its campaign is run.
-abbrev pub AnswersMission : Request → MissionValue → SinkView → SinkView → CampaignStatus → Type 0
-AnswersMission r M out out' HasFaults = ((length M.script == 0) ≡ false) × WritesLine out out' faults_line
-AnswersMission r M out out' (Ended status) = ((length M.script == 0) ≡ true) × RunsCampaign r M out out' status
+-- what doing what is asked for does, with the mission that these bytes are
+abbrev pub Does : Request → List ℕ → MissionValue → SinkView → SinkView → Status → Type 0
+Does (Campaign state runs rates) bytes M out out' status = RunsCampaign state runs rates M out out' status
+Does (Mission state rates) bytes M out out' status = Tells (run_document bytes M rates state) out out' status
+
+-- What the call does with a mission: where it has faults of its own they are told, and else what is asked for is done.
+abbrev pub AnswersMission : Request → List ℕ → MissionValue → SinkView → SinkView → CampaignStatus → Type 0
+AnswersMission r bytes M out out' HasFaults = ((length M.script == 0) ≡ false) × WritesLine out out' faults_line
+AnswersMission r bytes M out out' (Ended status) = ((length M.script == 0) ≡ true) × Does r bytes M out out' status
 
 -- the bytes that the source gives are no mission, or were not read to their end, and that is told as `guards` does
 abbrev pub RefusesWith : SourceView → SourceView → SinkView → SinkView → CampaignStatus → Type 0
@@ -52,7 +60,7 @@ abbrev pub AnswersBytes : Request → SourceView → SourceView → SinkView →
 AnswersBytes r src src' out out' status =
     RefusesWith src src' out out' status
     ⊎ ((bytes : List ℕ) × (M : MissionValue) × TakesAll src src' bytes × (mission_of bytes ≡ Ok M)
-    × AnswersMission r M out out' status)
+    × AnswersMission r bytes M out out' status)
 
 -- wrong words are told, and nothing else is done
 abbrev pub RefusesWords : SourceView → SourceView → SinkView → SinkView → CampaignStatus → Type 0
@@ -64,8 +72,8 @@ abbrev pub CampaignOutcome : Option Request → SourceView → SourceView → Si
 CampaignOutcome None src src' out out' status = RefusesWords src src' out out' status
 CampaignOutcome (Some r) src src' out out' status = AnswersBytes r src src' out out' status
 
--- The campaign of a mission without faults that the source tells is written to its end, unless memory runs out or a
--- fault comes.
+-- What is asked for of a mission without faults that the source tells is written to its end, unless memory runs out or
+-- a fault comes.
 abbrev pub CampaignCompletes : Option Request → SourceView → SourceView → SinkView → SinkView → CampaignStatus → Type 0
 CampaignCompletes asked src src' out out' status =
     (r : Request) (bytes : List ℕ) (M : MissionValue) → asked ≡ Some r → src.left ≡ Some bytes →

@@ -1,6 +1,7 @@
 //! The call of a campaign: its words, its source and its sink.
 #![tactic(auto)]
 
+mod document;
 mod lines;
 mod request;
 mod status;

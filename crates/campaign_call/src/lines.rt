@@ -7,7 +7,7 @@ ghost use Rattle.campaign_call.specs.Lines.{campaign_usage, faults_line};
 pub(crate) fn usage_line() -> &'static str
     ensures { result.now ≡ campaign_usage }
 {
-    "usage: guards_campaign SEED RUNS CRASH DAMAGE LOSE FORGE\n"
+    "usage: guards_campaign SEED RUNS CRASH DAMAGE LOSE FORGE | mission STATE CRASH DAMAGE LOSE FORGE\n"
 }
 
 /// The line of a mission with faults of its own.

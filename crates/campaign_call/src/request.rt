@@ -3,7 +3,7 @@ ghost use Rattle.std.specs.Prelude.{◌≡◌, ◌≤◌, IfSome};
 ghost use Rattle.std.specs.Char.{is_ascii_digit};
 ghost use Rattle.std.specs.List.{list_all};
 ghost use Rattle.command_line.specs.Commands.{is_number, number_of};
-ghost use Rattle.campaign_call.specs.Requests.{number_within, rate_of, rates_of, request_of, request_of_six};
+ghost use Rattle.campaign_call.specs.Requests.{IsWithin, campaign_of, mission_of_run, number_within, rate_of, rates_of, request_of, request_with};
 
 use campaign_draws::Rates;
 use guards_base::Words;
@@ -11,12 +11,14 @@ use guards_base::Words;
 /// The most digits of a number.
 const MOST_DIGITS: usize = 20;
 
-/// A campaign: the number from which its first run is drawn, how many runs it has, 1 to 10,000, and the rates of its faults.
+/// What the words ask for.
 #[derive(Clone, Copy, Debug, PartialEq, Eq)]
-pub struct Request {
-    pub state: u64,
-    pub runs: u32,
-    pub rates: Rates,
+pub enum Request {
+    /// A campaign: the number from which its first run is drawn, how many runs it has, 1 to 10,000, and the rates of its
+    /// faults.
+    Campaign { state: u64, runs: u32, rates: Rates },
+    /// The mission of the run that this number draws at these rates.
+    Mission { state: u64, rates: Rates },
 }
 
 fn is_number(text: &str) -> bool
@@ -98,17 +100,10 @@ fn runs_of(text: &str) -> Option<u32>
     }
 }
 
-#[tactic(auto, unfolding(crate::specs::Requests::request_of_six))]
-fn request_of_six(
-    state: &str,
-    runs: &str,
-    crash: &str,
-    damage: &str,
-    lose: &str,
-    forge: &str,
-) -> Option<Request>
-    ensures value { result ≡ request_of_six state.now runs.now crash.now damage.now lose.now forge.now }
-    ensures few { IfSome result (λ request. request.runs ≤ 10000) }
+#[tactic(auto, unfolding(crate::specs::Requests::campaign_of))]
+fn campaign_of(state: &str, runs: &str, rates: Option<Rates>) -> Option<Request>
+    ensures value { result ≡ campaign_of state.now runs.now rates }
+    ensures few { IfSome result IsWithin }
 {
     let Some(state) = number_of(state) else {
         return None;
@@ -116,26 +111,55 @@ fn request_of_six(
     let Some(runs) = runs_of(runs) else {
         return None;
     };
-    match rates_of(crash, damage, lose, forge) {
-        Some(rates) => Some(Request { state, runs, rates }),
+    match rates {
+        Some(rates) => Some(Request::Campaign { state, runs, rates }),
         None => None,
     }
 }
 
-/// The campaign that the words ask for: a number of one to twenty digits below two to the 64th, how many runs, 1 to 10,000, and
-/// the rates of crashes, damages, losses and forgeries, each up to 1,000,000. No other list of words asks for one.
+#[tactic(auto, unfolding(crate::specs::Requests::mission_of_run))]
+fn mission_of_run(state: &str, rates: Option<Rates>) -> Option<Request>
+    ensures value { result ≡ mission_of_run state.now rates }
+    ensures few { IfSome result IsWithin }
+{
+    let Some(state) = number_of(state) else {
+        return None;
+    };
+    match rates {
+        Some(rates) => Some(Request::Mission { state, rates }),
+        None => None,
+    }
+}
+
+#[tactic(auto, unfolding(crate::specs::Requests::request_with))]
+fn request_with(first: &str, second: &str, rates: Option<Rates>) -> Option<Request>
+    ensures value { result ≡ request_with first.now second.now rates }
+    ensures few { IfSome result IsWithin }
+{
+    if first == "mission" {
+        mission_of_run(second, rates)
+    } else {
+        campaign_of(first, second, rates)
+    }
+}
+
+/// What the words ask for: `mission`, a number and the rates of crashes, damages, losses and forgeries, each up to
+/// 1,000,000; or a number, how many runs, 1 to 10,000, and the rates. Numbers have one to twenty digits and are below two
+/// to the 64th. No other list of words asks for anything.
 pub fn read_request(words: &Words) -> Option<Request>
     ensures value { result ≡ request_of words.now.items }
-    ensures few { IfSome result (λ request. request.runs ≤ 10000) }
+    ensures few { IfSome result IsWithin }
 {
     match words.as_slice() {
-        [state, runs, crash, damage, lose, forge] => request_of_six(
-            state.as_str(),
-            runs.as_str(),
-            crash.as_str(),
-            damage.as_str(),
-            lose.as_str(),
-            forge.as_str(),
+        [first, second, crash, damage, lose, forge] => request_with(
+            first.as_str(),
+            second.as_str(),
+            rates_of(
+                crash.as_str(),
+                damage.as_str(),
+                lose.as_str(),
+                forge.as_str(),
+            ),
         ),
         _ => None,
     }

@@ -1,9 +1,10 @@
 //! The top call: all that the program does.
-ghost use Rattle.std.specs.Prelude.{◌≡◌, ◌≤◌, ◌==◌, length, Ok};
+ghost use Rattle.std.specs.Prelude.{◌≡◌, ◌==◌, length, Ok};
 ghost use Rattle.mission_text.specs.Mission.{mission_of};
-ghost use Rattle.campaign_call.specs.Outcomes.{AnswersBytes, AnswersMission, CampaignCompletes, CampaignOutcome, status_of};
-ghost use Rattle.campaign_call.specs.Requests.{request_of};
+ghost use Rattle.campaign_call.specs.Outcomes.{AnswersBytes, AnswersMission, CampaignCompletes, CampaignOutcome, Does, status_of};
+ghost use Rattle.campaign_call.specs.Requests.{IsWithin, request_of};
 
+use crate::document::put_document;
 use crate::lines::{faults_line, usage_line};
 use crate::request::{Request, read_request};
 use crate::status::CampaignStatus;
@@ -12,7 +13,7 @@ use ctx_lock::Gate;
 use fault_script::Script;
 use guards_base::Words;
 use guards_io::{Sink, Source, WriteStop, put_line};
-use mission_check::{Status, read_bytes, take_bytes};
+use mission_check::{Status, read_bytes, status_of_write, take_bytes};
 use mission_type::Mission;
 use native_calls::Calls;
 use std::alloc::Global;
@@ -37,7 +38,32 @@ fn ended(ran: Result<(), WriteStop>) -> Status
     }
 }
 
-/// Runs the campaign of a mission without faults.
+/// Does what is asked for with a mission without faults.
+fn answer_faultless<K: Sink, G: Gate, C: Calls + Sync, R: Threads + Wait + Sync>(
+    rt: &R,
+    alloc: Global,
+    request: &Request,
+    bytes: &[u8],
+    mission: &Mission,
+    out: &mut K,
+    gate: &G,
+    natives: &C,
+) -> Status
+    requires read { mission_of bytes.now ≡ Ok mission.now }
+    requires few { IsWithin request.now }
+    ensures { Does request.now bytes.now mission.now (K.seen out.old) (K.seen out.new) result }
+{
+    match *request {
+        Request::Campaign { state, runs, rates } => ended(run_campaign(
+            rt, alloc, bytes, mission, rates, state, runs, out, gate, natives,
+        )),
+        Request::Mission { state, rates } => {
+            status_of_write(put_document(alloc, bytes, mission, rates, state, out))
+        }
+    }
+}
+
+/// Does what is asked for with a mission, or tells that it has faults of its own.
 fn answer_mission<K: Sink, G: Gate, C: Calls + Sync, R: Threads + Wait + Sync>(
     rt: &R,
     alloc: Global,
@@ -49,17 +75,15 @@ fn answer_mission<K: Sink, G: Gate, C: Calls + Sync, R: Threads + Wait + Sync>(
     natives: &C,
 ) -> CampaignStatus
     requires read { mission_of bytes.now ≡ Ok mission.now }
-    requires few { request.now.runs ≤ 10000 }
-    ensures { AnswersMission request.now mission.now (K.seen out.old) (K.seen out.new) result }
+    requires few { IsWithin request.now }
+    ensures { AnswersMission request.now bytes.now mission.now (K.seen out.old) (K.seen out.new) result }
 {
     if !is_empty(mission.script()) {
         put_line(out, faults_line());
         return CampaignStatus::HasFaults;
     }
-    let (rates, state, runs) = (request.rates, request.state, request.runs);
-    CampaignStatus::Ended(ended(run_campaign(
-        rt, alloc, bytes, mission, rates, state, runs, out, gate, natives,
-    )))
+    let status = answer_faultless(rt, alloc, request, bytes, mission, out, gate, natives);
+    CampaignStatus::Ended(status)
 }
 
 /// Reads the source to its end, and answers its bytes.
@@ -72,7 +96,7 @@ fn answer<S: Source, K: Sink, G: Gate, C: Calls + Sync, R: Threads + Wait + Sync
     gate: &G,
     natives: &C,
 ) -> CampaignStatus
-    requires few { request.now.runs ≤ 10000 }
+    requires few { IsWithin request.now }
     ensures { AnswersBytes request.now (S.seen src.old) (S.seen src.new) (K.seen out.old) (K.seen out.new) result }
 {
     let bytes = match take_bytes(alloc, src, out) {
@@ -107,9 +131,9 @@ fn carry_out<S: Source, K: Sink, G: Gate, C: Calls + Sync, R: Threads + Wait + S
     }
 }
 
-/// Does all that the program does: it reads a mission without faults, draws a script of faults for each run, runs the
-/// mission with it, and writes a row for each, and then the lines of their summary. It may wait, so that it returns is
-/// not promised.
+/// Does all that the program does with a mission without faults that it reads: it draws a script of faults for each run,
+/// runs the mission with it, and writes a row for each, and then the lines of their summary; or it writes the mission of
+/// one such run. It may wait, so that it returns is not promised.
 pub fn campaign<S: Source, K: Sink, G: Gate, C: Calls + Sync, R: Threads + Wait + Sync>(
     rt: &R,
     alloc: Global,

@@ -14,9 +14,9 @@ mod script;
 mod sizes;
 
 pub use draws::Draws;
-pub use mission::drawn_mission;
+pub use mission::{drawn_mission, sizes_of};
 pub use rates::Rates;
-pub use script::drawn_script;
+pub use script::drawn_entries;
 pub use sizes::Sizes;
 
 /// Whatever the rates and the number, a drawn script keeps the rules of a script.

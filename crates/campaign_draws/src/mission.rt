@@ -14,7 +14,7 @@ use mission_type::Mission;
 use std::alloc::{AllocError, Global};
 
 /// The sizes of a mission.
-fn sizes_of(mission: &Mission) -> Sizes
+pub fn sizes_of(mission: &Mission) -> Sizes
     ensures { result ≡ sizes_of mission.now }
 {
     mission.prove_mission();

@@ -91,10 +91,24 @@ fn script_of(alloc: Global, faults: Faults, sizes: Sizes) -> Result<Script, Allo
     }
 }
 
-/// Draws the script of a run, and goes on to the number after its draws. It keeps the rules of a script, so it fails for want of
-/// memory alone.
+/// Draws the entries of the script of a run, and goes on to the number after its draws.
 #[tactic(auto, unfolding(crate::specs::Drawing::after_run))]
-pub fn drawn_script(
+pub fn drawn_entries(
+    alloc: Global,
+    sizes: Sizes,
+    rates: Rates,
+    draws: &mut Draws,
+) -> Result<Faults, AllocError>
+    ensures entries { IfOk result (λ entries. map fault_value entries.items ≡ drawn_faults sizes rates draws.old) }
+    ensures number { OnOk result (draws.new ≡ after_run sizes rates draws.old) }
+{
+    let all = all_faults(alloc, sizes, rates, draws)?;
+    Ok(first_faults(all))
+}
+
+/// Draws the script of a run, and goes on to the number after its draws. It keeps the rules of a script, so it fails for
+/// want of memory alone.
+pub(crate) fn drawn_script(
     alloc: Global,
     sizes: Sizes,
     rates: Rates,
@@ -104,6 +118,6 @@ pub fn drawn_script(
     ensures kept { IfOk result (λ script. script_fault sizes.channels sizes.cycles sizes.blocks script ≡ None) }
     ensures number { OnOk result (draws.new ≡ after_run sizes rates draws.old) }
 {
-    let faults = first_faults(all_faults(alloc, sizes, rates, draws)?);
-    script_of(alloc, faults, sizes)
+    let entries = drawn_entries(alloc, sizes, rates, draws)?;
+    script_of(alloc, entries, sizes)
 }

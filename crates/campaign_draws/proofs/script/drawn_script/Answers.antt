@@ -1,19 +1,7 @@
-use Rattle.std.proofs.Common.{◌≡◌, ℕ, List, map, ap, ◌∙◌}
-use Rattle.std.specs.Prelude.{take}
-use Rattle.guards_model.specs.Faults.{FaultValue}
-use Rattle.campaign_draws.specs.declared.rates.Rates.{Rates}
-use Rattle.campaign_draws.specs.Drawing.{SizesValue, cycles_faults, drawn_faults}
 use Rattle.campaign_draws.proofs.script.drawn_script.Goals as goal
 
--- the first entries of all are the drawn script
-drawn_is : (S : SizesValue) (rates : Rates) (x : ℕ) (all first : List FaultValue) → all ≡ cycles_faults S rates S.cycles 0 x → first ≡ take 1024 all → first ≡ drawn_faults S rates x
-unfolding drawn_faults
-drawn_is S rates x all first are is = is ∙ ap (take 1024) are
-
 pub script_of-requires : goal.script_of-requires
-script_of-requires c =
-    (c.args.rates, c.args.draws.now, drawn_is c.args.sizes c.args.rates c.args.draws.now _ _ c.in_ok-all_faults.ensures.faults c.first_faults-faults.ensures)
+script_of-requires c = (c.args.rates, c.args.draws.now, c.in_ok-entries.ensures.entries)
 
 pub returns-clause-script : goal.returns-clause-script
-returns-clause-script c =
-    rw (drawn_is c.args.sizes c.args.rates c.args.draws.now _ _ c.in_ok-all_faults.ensures.faults c.first_faults-faults.ensures) at c.script_of.ensures.made
+returns-clause-script c = rw c.in_ok-entries.ensures.entries at c.script_of.ensures.made
