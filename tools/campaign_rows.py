@@ -1,6 +1,8 @@
-"""The rows of a campaign of the mission in crates/guards_campaign/stdin, as the simulator runs it.
+"""The rows and the summary of a campaign of the mission in crates/guards_campaign/stdin, as the simulator runs it; and the entries of
+one run, as they stand in its mission's document.
 
   python3 tools/campaign_rows.py SEED RUNS CRASH DAMAGE LOSE FORGE
+  python3 tools/campaign_rows.py mission STATE CRASH DAMAGE LOSE FORGE
 
 The simulator has no product, so that a sum stands for it: no row tells a word. It shares nothing with the crates, so that the two can be compared; nothing of the gate needs it."""
 import itertools
@@ -100,13 +102,43 @@ def row(run, state, entries):
             sum(len(e['removed']) for e in cycles), false, sum(len(e['joined']) for e in cycles), whole, dropped, longest or '', BOUND]
 
 
+def document(entries):
+    """the entries as tables of the key `fault`, on a new line"""
+    lines = ['']
+    for kind, c, q, *rest in entries:
+        lines += ['[[fault]]', f'kind = "{kind}"', f'cycle = {c}']
+        if kind == 'crash':
+            lines += [f'slot = "{rest[0]}"', f'channel = {q}']
+        elif kind == 'restart':
+            lines += [f'channel = {q}']
+        elif kind == 'damage':
+            lines += [f'channel = {q}'] + [f'{key} = {number}' for key, number in zip(('block', 'word', 'value'), rest)]
+        elif kind == 'lose':
+            lines += [f'slot = "{rest[0]}"', f'from = {q}', f'to = {rest[1]}']
+        else:
+            lines += ['slot = "vote"', f'from = {q}', f'to = {rest[0]}', f'bytes = "{bytes(rest[1]).hex()}"']
+    return '\n'.join(lines)
+
+
 def main():
+    if sys.argv[1] == 'mission':
+        state, *rates = map(int, sys.argv[2:])
+        print(document(script(Draws(state), *rates)))
+        return
     seed, runs, *rates = map(int, sys.argv[1:])
     draws = Draws(seed)
     print(COLUMNS)
+    rows = []
     for run in range(runs):
         state = draws.x
-        print(','.join(map(str, row(run, state, script(draws, *rates)))))
+        rows.append(row(run, state, script(draws, *rates)))
+        print(','.join(map(str, rows[-1])))
+    total = lambda name: sum(r[COLUMNS.split(',').index(name)] for r in rows)
+    print(f'# runs {runs} stopped {sum(r[2] == "stop" for r in rows)}')
+    print(f'# removals {total("removals")} false {total("false_removals")}')
+    print(f'# joins {total("joins")} not whole {total("not_whole")}')
+    print(f'# dropped {total("dropped")}')
+    print(f'# longest transfer {max(r[-2] or 0 for r in rows)} bound {BOUND}')
 
 
 main()
