@@ -71,23 +71,26 @@ totals_with t stop s =
 
 -- ---- the lines
 
-unfoldable pub runs_line : TotalsValue → TextValue
-runs_line s = codes "# runs " ++ decimal s.runs ++ codes " stopped " ++ decimal s.stopped ++ line_end
+unfoldable pub runs_line : ℕ → ℕ → TextValue
+runs_line runs stopped = codes "# runs " ++ decimal runs ++ codes " stopped " ++ decimal stopped ++ line_end
 
-unfoldable pub removals_line : TotalsValue → TextValue
-removals_line s = codes "# removals " ++ decimal s.removals ++ codes " false " ++ decimal s.false_removals ++ line_end
+unfoldable pub removals_line : ℕ → ℕ → TextValue
+removals_line removals falsely =
+    codes "# removals " ++ decimal removals ++ codes " false " ++ decimal falsely ++ line_end
 
-unfoldable pub joins_line : TotalsValue → TextValue
-joins_line s = codes "# joins " ++ decimal s.joins ++ codes " not whole " ++ decimal s.not_whole ++ line_end
+unfoldable pub joins_line : ℕ → ℕ → TextValue
+joins_line joins not_whole = codes "# joins " ++ decimal joins ++ codes " not whole " ++ decimal not_whole ++ line_end
 
-unfoldable pub drops_line : TotalsValue → TextValue
-drops_line s = codes "# dropped " ++ decimal s.dropped ++ line_end
+unfoldable pub drops_line : ℕ → TextValue
+drops_line dropped = codes "# dropped " ++ decimal dropped ++ line_end
 
-unfoldable pub transfers_line : Option ℕ → TotalsValue → TextValue
-transfers_line bound s =
-    codes "# longest transfer " ++ decimal s.longest ++ codes " bound " ++ bound_text bound ++ line_end
+unfoldable pub transfers_line : ℕ → Option ℕ → TextValue
+transfers_line longest bound =
+    codes "# longest transfer " ++ decimal longest ++ codes " bound " ++ bound_text bound ++ line_end
 
 -- the lines of the summary, with the most cycles that a transfer of the mission takes, if there is such a bound
 unfoldable pub summary_text : Option ℕ → TotalsValue → TextValue
 summary_text bound s =
-    runs_line s ++ (removals_line s ++ (joins_line s ++ (drops_line s ++ transfers_line bound s)))
+    runs_line s.runs s.stopped
+    ++ (removals_line s.removals s.false_removals
+    ++ (joins_line s.joins s.not_whole ++ (drops_line s.dropped ++ transfers_line s.longest bound)))

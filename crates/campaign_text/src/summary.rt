@@ -54,6 +54,42 @@ fn stops(stop: &Option<Stop>) -> u32
     }
 }
 
+#[tactic(auto, unfolding(crate::specs::Summaries::runs_line))]
+fn runs_line(alloc: Global, runs: u32, stopped: u32) -> Result<String, AllocError>
+    ensures { IfOk result (λ text. string_bytes text ≡ runs_line runs stopped) }
+{
+    format!(in alloc; "# runs {runs} stopped {stopped}\n")
+}
+
+#[tactic(auto, unfolding(crate::specs::Summaries::removals_line))]
+fn removals_line(alloc: Global, removals: u64, falsely: u64) -> Result<String, AllocError>
+    ensures { IfOk result (λ text. string_bytes text ≡ removals_line removals falsely) }
+{
+    format!(in alloc; "# removals {removals} false {falsely}\n")
+}
+
+#[tactic(auto, unfolding(crate::specs::Summaries::joins_line))]
+fn joins_line(alloc: Global, joins: u64, not_whole: u64) -> Result<String, AllocError>
+    ensures { IfOk result (λ text. string_bytes text ≡ joins_line joins not_whole) }
+{
+    format!(in alloc; "# joins {joins} not whole {not_whole}\n")
+}
+
+#[tactic(auto, unfolding(crate::specs::Summaries::drops_line))]
+fn drops_line(alloc: Global, dropped: u64) -> Result<String, AllocError>
+    ensures { IfOk result (λ text. string_bytes text ≡ drops_line dropped) }
+{
+    format!(in alloc; "# dropped {dropped}\n")
+}
+
+#[tactic(auto, unfolding(crate::specs::Summaries::transfers_line))]
+fn transfers_line(alloc: Global, longest: u32, bound: Option<u32>) -> Result<String, AllocError>
+    ensures { IfOk result (λ text. string_bytes text ≡ transfers_line longest bound) }
+{
+    let bound = bound_text(alloc, bound)?;
+    format!(in alloc; "# longest transfer {longest} bound {bound}\n")
+}
+
 impl Totals {
     /// No run is told.
     #[tactic(auto, unfolding(crate::specs::Summaries::totals_of))]
@@ -88,57 +124,16 @@ impl Totals {
         self.longest = self.longest.max(tally.longest());
     }
 
-    #[tactic(auto, unfolding(crate::specs::Summaries::runs_line))]
-    fn runs_line(&self, alloc: Global) -> Result<String, AllocError>
-        ensures { IfOk result (λ text. string_bytes text ≡ runs_line self.now) }
-    {
-        let (runs, stopped) = (self.runs, self.stopped);
-        format!(in alloc; "# runs {runs} stopped {stopped}\n")
-    }
-
-    #[tactic(auto, unfolding(crate::specs::Summaries::removals_line))]
-    fn removals_line(&self, alloc: Global) -> Result<String, AllocError>
-        ensures { IfOk result (λ text. string_bytes text ≡ removals_line self.now) }
-    {
-        let (removals, falsely) = (self.removals, self.false_removals);
-        format!(in alloc; "# removals {removals} false {falsely}\n")
-    }
-
-    #[tactic(auto, unfolding(crate::specs::Summaries::joins_line))]
-    fn joins_line(&self, alloc: Global) -> Result<String, AllocError>
-        ensures { IfOk result (λ text. string_bytes text ≡ joins_line self.now) }
-    {
-        let (joins, not_whole) = (self.joins, self.not_whole);
-        format!(in alloc; "# joins {joins} not whole {not_whole}\n")
-    }
-
-    #[tactic(auto, unfolding(crate::specs::Summaries::drops_line))]
-    fn drops_line(&self, alloc: Global) -> Result<String, AllocError>
-        ensures { IfOk result (λ text. string_bytes text ≡ drops_line self.now) }
-    {
-        let dropped = self.dropped;
-        format!(in alloc; "# dropped {dropped}\n")
-    }
-
-    #[tactic(auto, unfolding(crate::specs::Summaries::transfers_line))]
-    fn transfers_line(&self, alloc: Global, bound: Option<u32>) -> Result<String, AllocError>
-        ensures { IfOk result (λ text. string_bytes text ≡ transfers_line bound self.now) }
-    {
-        let longest = self.longest;
-        let bound = bound_text(alloc, bound)?;
-        format!(in alloc; "# longest transfer {longest} bound {bound}\n")
-    }
-
     /// The lines of the summary, with the most cycles that a transfer of the mission takes, if there is such a bound.
     #[tactic(auto, unfolding(crate::specs::Summaries::summary_text))]
     pub fn summary_text(&self, alloc: Global, bound: Option<u32>) -> Result<String, AllocError>
         ensures { IfOk result (λ text. string_bytes text ≡ summary_text bound self.now) }
     {
-        let mut text = self.runs_line(alloc)?;
-        text.push_str(&self.removals_line(alloc)?)?;
-        text.push_str(&self.joins_line(alloc)?)?;
-        text.push_str(&self.drops_line(alloc)?)?;
-        text.push_str(&self.transfers_line(alloc, bound)?)?;
+        let mut text = runs_line(alloc, self.runs, self.stopped)?;
+        text.push_str(&removals_line(alloc, self.removals, self.false_removals)?)?;
+        text.push_str(&joins_line(alloc, self.joins, self.not_whole)?)?;
+        text.push_str(&drops_line(alloc, self.dropped)?)?;
+        text.push_str(&transfers_line(alloc, self.longest, bound)?)?;
         Ok(text)
     }
 }

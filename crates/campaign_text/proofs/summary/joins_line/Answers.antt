@@ -1,6 +1,6 @@
 use Rattle.std.proofs.Common.{rules, append_assoc}
 use Rattle.campaign_text.specs.Summaries.{joins_line}
-use Rattle.campaign_text.proofs.summary.Totals.joins_line.Goals as goal
+use Rattle.campaign_text.proofs.summary.joins_line.Goals as goal
 
 pub returns : goal.returns
 unfolding joins_line

@@ -1,6 +1,6 @@
 use Rattle.std.proofs.Common.{rules, append_assoc}
 use Rattle.campaign_text.specs.Summaries.{removals_line}
-use Rattle.campaign_text.proofs.summary.Totals.removals_line.Goals as goal
+use Rattle.campaign_text.proofs.summary.removals_line.Goals as goal
 
 pub returns : goal.returns
 unfolding removals_line
