@@ -1,4 +1,4 @@
 pub mod Drawn
 pub mod Passing
 pub mod Kept
-pub mod Entries
+pub mod DrawnMissions

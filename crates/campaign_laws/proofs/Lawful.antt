@@ -19,7 +19,7 @@ use Rattle.tally_laws.proofs.Lengths.{keeps_bound, longest_is}
 use Rattle.tally_laws.proofs.Unnamed.{none_false}
 use Rattle.campaign_draws.specs.declared.rates.Rates.{Rates}
 use Rattle.campaign_draws.specs.Drawing.{drawn_mission, run_mission, sizes_of, state_of}
-use Rattle.campaign_draws.proofs.Entries.{drawn_is_mission}
+use Rattle.campaign_draws.proofs.DrawnMissions.{drawn_is_mission}
 use Rattle.campaign_run.specs.Campaigns.{AreRows, IsRow, bound_of}
 use Rattle.campaign_run.specs.Counting.{IsToldRun, TellsRun, counted}
 use Rattle.campaign_laws.specs.LawfulRows.{IsLawfulRow, lawful_tally}
