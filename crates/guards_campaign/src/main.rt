@@ -9,6 +9,7 @@ use campaign_call::{CampaignStatus, campaign};
 use ctx_lock::OpenGate;
 use guards_base::{Text, Words};
 use guards_io::{Sink, Source, StdSink, StdSource};
+use mission_check::Status;
 use native_calls::{Code, Native, Natives, Operation, middle, ramp, saturated};
 use std::alloc::{AllocError, Global};
 use std::env;
