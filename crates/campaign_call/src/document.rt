@@ -44,8 +44,8 @@ fn put_both<K: Sink>(out: &mut K, bytes: &[u8], text: &str) -> Result<(), WriteS
     put(out, text)
 }
 
-/// Writes the document of the mission of the run that a number draws: the bytes of the mission, which has no faults, and
-/// behind them the drawn entries, each a table of the key `fault`.
+/// Writes the document of the mission of the run that a number draws: the bytes of the mission, which has no faults,
+/// and behind them the drawn entries, each a table of the key `fault`.
 #[tactic(auto, using(guards_io::proofs::WritesLemmas::nothing_written))]
 pub(crate) fn put_document<K: Sink>(
     alloc: Global,

@@ -14,8 +14,8 @@ const MOST_DIGITS: usize = 20;
 /// What the words ask for.
 #[derive(Clone, Copy, Debug, PartialEq, Eq)]
 pub enum Request {
-    /// A campaign: the number from which its first run is drawn, how many runs it has, 1 to 10,000, and the rates of its
-    /// faults.
+    /// A campaign: the number from which its first run is drawn, how many runs it has, 1 to 10,000, and the rates of
+    /// its faults.
     Campaign { state: u64, runs: u32, rates: Rates },
     /// The mission of the run that this number draws at these rates.
     Mission { state: u64, rates: Rates },
@@ -144,8 +144,8 @@ fn request_with(first: &str, second: &str, rates: Option<Rates>) -> Option<Reque
 }
 
 /// What the words ask for: `mission`, a number and the rates of crashes, damages, losses and forgeries, each up to
-/// 1,000,000; or a number, how many runs, 1 to 10,000, and the rates. Numbers have one to twenty digits and are below two
-/// to the 64th. No other list of words asks for anything.
+/// 1,000,000; or a number, how many runs, 1 to 10,000, and the rates. Numbers have one to twenty digits and are below
+/// two to the 64th. No other list of words asks for anything.
 pub fn read_request(words: &Words) -> Option<Request>
     ensures value { result ≡ request_of words.now.items }
     ensures few { IfSome result IsWithin }

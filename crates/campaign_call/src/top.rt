@@ -131,9 +131,9 @@ fn carry_out<S: Source, K: Sink, G: Gate, C: Calls + Sync, R: Threads + Wait + S
     }
 }
 
-/// Does all that the program does with a mission without faults that it reads: it draws a script of faults for each run,
-/// runs the mission with it, and writes a row for each, and then the lines of their summary; or it writes the mission of
-/// one such run. It may wait, so that it returns is not promised.
+/// Does all that the program does with a mission without faults that it reads: it draws a script of faults for each
+/// run, runs the mission with it, and writes a row for each, and then the lines of their summary; or it writes the
+/// mission of one such run. It may wait, so that it returns is not promised.
 pub fn campaign<S: Source, K: Sink, G: Gate, C: Calls + Sync, R: Threads + Wait + Sync>(
     rt: &R,
     alloc: Global,

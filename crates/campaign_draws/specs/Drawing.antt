@@ -20,7 +20,13 @@ pub record SizesValue : Type 0 where
 
 abbrev pub sizes_of : MissionValue → SizesValue
 sizes_of M =
-    record { channels = M.rules.channels; cycles = M.cycles; blocks = M.rules.blocks; outputs = length M.outputs; version = M.rules.version }
+    record {
+      channels = M.rules.channels;
+      cycles = M.cycles;
+      blocks = M.rules.blocks;
+      outputs = length M.outputs;
+      version = M.rules.version;
+    }
 
 -- whether the next draw below a million is below the rate
 unfoldable pub happens : ℕ → ℕ → Bool
@@ -42,7 +48,8 @@ other_channel channels q draw = (q + 1 + draw) % channels
 
 -- the vote frame of a channel with these words
 unfoldable pub forged_vote : ℕ → ℕ → ℕ → List ℕ → List ℕ
-forged_vote version c q words = spelling (record { version = version; sender = q; cycle = c; body = vote_body (map (λ word. pos word) words) })
+forged_vote version c q words =
+    spelling (record { version = version; sender = q; cycle = c; body = vote_body (map (λ word. pos word) words) })
 
 module _ (S : SizesValue) (rates : Rates) (c q : ℕ) where
   -- the restart of the channel in a cycle that there is
@@ -53,14 +60,16 @@ module _ (S : SizesValue) (rates : Rates) (c q : ℕ) where
   unfoldable pub crashes : ℕ → List FaultValue
   crashes x =
       if happens rates.crash x then
-      crash q c (unwrap_or (slice_get every_slot (drawn 9 (number_after 2 x))) Request) ∷ restart_in (c + 1 + drawn 8 (number_after 3 x))
+      crash q c (unwrap_or (slice_get every_slot (drawn 9 (number_after 2 x))) Request)
+      ∷ restart_in (c + 1 + drawn 8 (number_after 3 x))
       else []
 
   -- a damage of one word
   unfoldable pub damages : ℕ → List FaultValue
   damages x =
       if happens rates.damage x then
-      damage q c (drawn S.blocks (number_after 2 x)) (drawn 8 (number_after 3 x)) (pos (drawn (2 ^ 31) (number_after 4 x))) ∷ []
+      damage q c (drawn S.blocks (number_after 2 x)) (drawn 8 (number_after 3 x))
+      (pos (drawn (2 ^ 31) (number_after 4 x))) ∷ []
       else []
 
   -- a lost frame to another channel
@@ -84,7 +93,8 @@ module _ (S : SizesValue) (rates : Rates) (c q : ℕ) where
         cycle = c;
         slot = Vote;
         from = q;
-        to = Some (other_channel S.channels q (drawn (S.channels - 1) (next_number (number_after S.outputs (next_number x)))));
+        to = Some (other_channel S.channels q
+            (drawn (S.channels - 1) (next_number (number_after S.outputs (next_number x)))));
         act = forge (forged_vote S.version c q (draws S.outputs (2 ^ 31) (next_number x)));
       }) ∷ []
       else []
@@ -103,7 +113,8 @@ module _ (S : SizesValue) (rates : Rates) where
   after_loss x = after_fault 2 rates.lose x
 
   unfoldable pub after_forgery : ℕ → ℕ
-  after_forgery x = if happens rates.forge x then next_number (number_after S.outputs (next_number x)) else next_number x
+  after_forgery x = if happens rates.forge x then next_number (number_after S.outputs (next_number x))
+      else next_number x
 
   -- the faults of a channel in a cycle, and the number after its draws
   unfoldable pub channel_faults : ℕ → ℕ → ℕ → List FaultValue
@@ -128,7 +139,8 @@ module _ (S : SizesValue) (rates : Rates) where
   -- the faults of so many cycles from c on
   unfoldable pub cycles_faults : ℕ → ℕ → ℕ → List FaultValue
   cycles_faults zero c x = []
-  cycles_faults (suc more) c x = channels_faults c S.channels 0 x ++ cycles_faults more (c + 1) (after_channels S.channels x)
+  cycles_faults (suc more) c x =
+      channels_faults c S.channels 0 x ++ cycles_faults more (c + 1) (after_channels S.channels x)
 
   unfoldable pub after_cycles : ℕ → ℕ → ℕ
   after_cycles zero x = x
@@ -152,8 +164,8 @@ with_script M script = record M { script = script }
 unfoldable pub drawn_mission : MissionValue → Rates → ℕ → MissionValue
 drawn_mission M rates x = with_script M (drawn_faults (sizes_of M) rates x)
 
--- the numbers from which the runs of a campaign are drawn: the first from its own number, and each later one from the number
--- after the draws of the one before
+-- the numbers from which the runs of a campaign are drawn: the first from its own number, and each later one from the
+-- number after the draws of the one before
 unfoldable pub state_of : SizesValue → Rates → ℕ → ℕ → ℕ
 state_of S rates x zero = x
 state_of S rates x (suc run) = after_run S rates (state_of S rates x run)

@@ -54,7 +54,8 @@ fn lossy_slot(number: u64) -> Slot
 /// Another channel.
 fn other_channel(sizes: Sizes, channel: Chan, draws: &mut Draws) -> u8
     requires { channel < sizes.channels }
-    ensures channel { result ≡ other_channel sizes.channels channel (drawn (sizes.channels - 1) (next_number draws.old)) }
+    ensures channel { result ≡ other_channel sizes.channels channel
+        (drawn (sizes.channels - 1) (next_number draws.old)) }
     ensures number { draws.new ≡ next_number draws.old }
 {
     let channels = u64::from(sizes.channels);
@@ -73,7 +74,9 @@ fn push_crash(
     draws: &mut Draws,
 ) -> Result<(), AllocError>
     requires { cycle < sizes.cycles }
-    ensures faults { OnOk result (map fault_value faults.new.items ≡ map fault_value faults.old.items ++ crashes sizes rates cycle channel draws.old) }
+    ensures faults { OnOk result
+        (map fault_value faults.new.items
+        ≡ map fault_value faults.old.items ++ crashes sizes rates cycle channel draws.old) }
     ensures number { OnOk result (draws.new ≡ after_fault 2 rates.crash draws.old) }
 {
     if !draws.happens(rates.crash) {
@@ -106,7 +109,9 @@ fn push_damage(
     channel: Chan,
     draws: &mut Draws,
 ) -> Result<(), AllocError>
-    ensures faults { OnOk result (map fault_value faults.new.items ≡ map fault_value faults.old.items ++ damages sizes rates cycle channel draws.old) }
+    ensures faults { OnOk result
+        (map fault_value faults.new.items
+        ≡ map fault_value faults.old.items ++ damages sizes rates cycle channel draws.old) }
     ensures number { OnOk result (draws.new ≡ after_fault 3 rates.damage draws.old) }
 {
     if !draws.happens(rates.damage) {
@@ -136,7 +141,9 @@ fn push_loss(
     draws: &mut Draws,
 ) -> Result<(), AllocError>
     requires { channel < sizes.channels }
-    ensures faults { OnOk result (map fault_value faults.new.items ≡ map fault_value faults.old.items ++ losses sizes rates cycle channel draws.old) }
+    ensures faults { OnOk result
+        (map fault_value faults.new.items
+        ≡ map fault_value faults.old.items ++ losses sizes rates cycle channel draws.old) }
     ensures number { OnOk result (draws.new ≡ after_fault 2 rates.lose draws.old) }
 {
     if !draws.happens(rates.lose) {
@@ -164,7 +171,8 @@ fn drawn_word(numbers: &mut Draws) -> i64
 
 /// Appends such a word.
 fn push_word(words: &mut Vec<i64>, numbers: &mut Draws) -> Result<(), AllocError>
-    ensures pushed { OnOk result (words.new.items ≡ words.old.items ++ pos (drawn (2 ^ 31) (next_number numbers.old)) ∷ []) }
+    ensures pushed { OnOk result
+        (words.new.items ≡ words.old.items ++ pos (drawn (2 ^ 31) (next_number numbers.old)) ∷ []) }
     ensures number { OnOk result (numbers.new ≡ next_number numbers.old) }
 {
     words.push(drawn_word(numbers))?;
@@ -194,7 +202,8 @@ fn forged_vote(
 ) -> Result<Bytes, AllocError>
     requires cycle { cycle < sizes.cycles }
     requires channel { channel < sizes.channels }
-    ensures piece { IfOk result (λ piece. piece.items ≡ forged_vote sizes.version cycle channel (draws sizes.outputs (2 ^ 31) numbers.old)) }
+    ensures piece { IfOk result
+        (λ piece. piece.items ≡ forged_vote sizes.version cycle channel (draws sizes.outputs (2 ^ 31) numbers.old)) }
     ensures number { OnOk result (numbers.new ≡ number_after sizes.outputs numbers.old) }
 {
     let words = drawn_words(alloc, sizes.outputs, numbers)?;
@@ -221,7 +230,9 @@ fn push_forgery(
 ) -> Result<(), AllocError>
     requires cycle { cycle < sizes.cycles }
     requires channel { channel < sizes.channels }
-    ensures faults { OnOk result (map fault_value faults.new.items ≡ map fault_value faults.old.items ++ forgeries sizes rates cycle channel draws.old) }
+    ensures faults { OnOk result
+        (map fault_value faults.new.items
+        ≡ map fault_value faults.old.items ++ forgeries sizes rates cycle channel draws.old) }
     ensures number { OnOk result (draws.new ≡ after_forgery sizes rates draws.old) }
 {
     if !draws.happens(rates.forge) {
@@ -252,7 +263,9 @@ pub(crate) fn push_channel(
 ) -> Result<(), AllocError>
     requires cycle { cycle < sizes.cycles }
     requires channel { channel < sizes.channels }
-    ensures faults { OnOk result (map fault_value faults.new.items ≡ map fault_value faults.old.items ++ channel_faults sizes rates cycle channel draws.old) }
+    ensures faults { OnOk result
+        (map fault_value faults.new.items
+        ≡ map fault_value faults.old.items ++ channel_faults sizes rates cycle channel draws.old) }
     ensures number { OnOk result (draws.new ≡ after_channel sizes rates draws.old) }
 {
     push_crash(faults, sizes, rates, cycle, channel, draws)?;

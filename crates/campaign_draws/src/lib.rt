@@ -21,6 +21,7 @@ pub use sizes::Sizes;
 
 /// Whatever the rates and the number, a drawn script keeps the rules of a script.
 pub fn drawn_scripts_keep_their_rules()
-    ensures { (sizes : SizesValue) (rates : Rates) (number : ℕ) → 3 ≤ sizes.channels → 1 ≤ sizes.blocks → sizes.outputs ≤ 8 →
+    ensures { (sizes : SizesValue) (rates : Rates) (number : ℕ) → 3 ≤ sizes.channels → 1 ≤ sizes.blocks →
+        sizes.outputs ≤ 8 →
         script_fault sizes.channels sizes.cycles sizes.blocks (drawn_faults sizes rates number) ≡ None }
 {}

@@ -40,8 +40,8 @@ fn with_script(mission: Mission, script: Script) -> Mission
     changed
 }
 
-/// Draws the script of a run, puts it in place of the mission's own, and goes on to the number after its draws. It keeps
-/// the rules of a script, so it fails for want of memory alone.
+/// Draws the script of a run, puts it in place of the mission's own, and goes on to the number after its draws. It
+/// keeps the rules of a script, so it fails for want of memory alone.
 #[tactic(auto, unfolding(crate::specs::Drawing::drawn_mission))]
 pub fn drawn_mission(
     alloc: Global,

@@ -35,7 +35,9 @@ fn push_cycle(
     draws: &mut Draws,
 ) -> Result<(), AllocError>
     requires { cycle < sizes.cycles }
-    ensures faults { OnOk result (map fault_value faults.new.items ≡ map fault_value faults.old.items ++ channels_faults sizes rates cycle sizes.channels 0 draws.old) }
+    ensures faults { OnOk result
+        (map fault_value faults.new.items
+        ≡ map fault_value faults.old.items ++ channels_faults sizes rates cycle sizes.channels 0 draws.old) }
     ensures number { OnOk result (draws.new ≡ after_channels sizes rates sizes.channels draws.old) }
 {
     for number in 0..sizes.channels {
@@ -52,7 +54,8 @@ fn all_faults(
     rates: Rates,
     draws: &mut Draws,
 ) -> Result<Faults, AllocError>
-    ensures faults { IfOk result (λ faults. map fault_value faults.items ≡ cycles_faults sizes rates sizes.cycles 0 draws.old) }
+    ensures faults { IfOk result
+        (λ faults. map fault_value faults.items ≡ cycles_faults sizes rates sizes.cycles 0 draws.old) }
     ensures number { OnOk result (draws.new ≡ after_cycles sizes rates sizes.cycles draws.old) }
 {
     let mut faults = Faults::new(alloc);
@@ -106,8 +109,8 @@ pub fn drawn_entries(
     Ok(first_faults(all))
 }
 
-/// Draws the script of a run, and goes on to the number after its draws. It keeps the rules of a script, so it fails for
-/// want of memory alone.
+/// Draws the script of a run, and goes on to the number after its draws. It keeps the rules of a script, so it fails
+/// for want of memory alone.
 pub(crate) fn drawn_script(
     alloc: Global,
     sizes: Sizes,

@@ -43,7 +43,8 @@ named_channel (bus rule) = rule.from
 
 -- whether an entry names a channel in one of these cycles
 abbrev pub names : Channel → ℕ → ℕ → FaultValue → Bool
-names q first last entry = named_channel entry == q && (nat_le first (fault_cycle entry) && nat_le (fault_cycle entry) last)
+names q first last entry =
+    named_channel entry == q && (nat_le first (fault_cycle entry) && nat_le (fault_cycle entry) last)
 
 -- whether some entry does, and whether one of this kind does
 abbrev pub is_named : List FaultValue → Channel → ℕ → ℕ → Bool
@@ -90,8 +91,8 @@ PastFacts = List FactsValue
 abbrev pub facts_of : Past → PastFacts
 facts_of past = map facts_of_cycle past
 
--- The first cycle of which an entry may be behind the removal of a channel: the one in which it sent the request that started the
--- transfer by which it last joined, which is the one before its start; or 0 where it did not join.
+-- The first cycle of which an entry may be behind the removal of a channel: the one in which it sent the request that
+-- started the transfer by which it last joined, which is the one before its start; or 0 where it did not join.
 abbrev pub since : PastFacts → Channel → ℕ
 since [] q = 0
 since (f ∷ past) q = if has f.joined q then start_of f.transfer - 1 else since past q
@@ -100,7 +101,8 @@ since (f ∷ past) q = if has f.joined q then start_of f.transfer - 1 else since
 
 -- who is removed, though no entry names it from that cycle on
 abbrev pub falsely_removed : List FaultValue → FactsValue → PastFacts → ChannelSet
-falsely_removed script f past = channels_where (λ q. has f.removed q && not (is_named script q (since past q) (length past)))
+falsely_removed script f past =
+    channels_where (λ q. has f.removed q && not (is_named script q (since past q) (length past)))
 
 -- the latest of some cycles
 abbrev pub latest : PastFacts → Option FactsValue

@@ -8,9 +8,15 @@ use Rattle.campaign_facts.specs.Facts.{FactsValue, PastFacts, since, removals, f
 use Rattle.campaign_facts.specs.declared.facts.CycleFacts.{CycleFacts}
 
 abbrev pub facts_value : CycleFacts → FactsValue
-facts_value f = record { removed = f.removed; joined = f.joined; transfer = transfer_of_pair f.transfer; running = f.running }
+facts_value f = record {
+  removed = f.removed;
+  joined = f.joined;
+  transfer = transfer_of_pair f.transfer;
+  running = f.running;
+}
 
--- the numbers that are kept, by channel the first cycle of which an entry may be behind its removal, and the facts of the latest cycle
+-- the numbers that are kept, by channel the first cycle of which an entry may be behind its removal, and the facts of
+-- the latest cycle
 pub record TallyValue : Type 0 where
   pub cycles : ℕ
   pub removals : ℕ
@@ -43,7 +49,8 @@ next_tally script f t =
     record {
       cycles = suc t.cycles;
       removals = t.removals + length f.removed;
-      false_removals = t.false_removals + length (channels_where (λ q. has f.removed q && not (is_named script q (place_or t.firsts q 0) t.cycles)));
+      false_removals = t.false_removals + length
+          (channels_where (λ q. has f.removed q && not (is_named script q (place_or t.firsts q 0) t.cycles)));
       joins = t.joins + length f.joined;
       not_whole = t.not_whole + length (unrisen t.last f.running);
       dropped = t.dropped + length (dropped_targets t.last f.transfer);

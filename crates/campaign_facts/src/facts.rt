@@ -7,8 +7,8 @@ ghost use Rattle.campaign_facts.specs.Tallies.{facts_value};
 
 use guards_base::{Chan, ChanSet, ChannelLine, CycleRecord, set_by};
 
-/// Who was removed in a cycle, who was declared joined, its transfer with its targets and its start, and who had a line at its
-/// end.
+/// Who was removed in a cycle, who was declared joined, its transfer with its targets and its start, and who had a line
+/// at its end.
 #[derive(Clone, Copy, Debug)]
 pub struct CycleFacts {
     pub removed: ChanSet,

@@ -108,7 +108,8 @@ pub fn is_named(script: &Script, channel: u8, first: u32, last: u32) -> bool
 }
 
 fn others_name_by(kind: Kind, entries: &[Fault], channel: u8, first: u32, last: u32) -> bool
-    ensures { result ≡ list_any (λ entry. is_kind kind (fault_value entry) && names channel first last (fault_value entry)) entries.now }
+    ensures { result ≡ list_any
+        (λ entry. is_kind kind (fault_value entry) && names channel first last (fault_value entry)) entries.now }
 {
     entries.iter().any(|entry| is_kind(kind, entry) && names(entry, channel, first, last))
 }
@@ -129,7 +130,8 @@ pub fn is_named_by(kind: Kind, script: &Script, channel: u8, first: u32, last: u
 }
 
 fn others_count(kind: Kind, entries: &[Fault], cycles: u32) -> usize
-    ensures { result ≡ count_by (λ entry. is_kind kind (fault_value entry) && nat_lt (fault_cycle (fault_value entry)) cycles) entries.now }
+    ensures { result ≡ count_by
+        (λ entry. is_kind kind (fault_value entry) && nat_lt (fault_cycle (fault_value entry)) cycles) entries.now }
 {
     entries
         .iter()

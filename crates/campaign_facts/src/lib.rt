@@ -16,5 +16,6 @@ pub use tally::Tally;
 
 /// What is kept cycle by cycle is what the rules tell of all cycles.
 pub fn tallies_are_kept()
-    ensures { (script : List FaultValue) (f : FactsValue) (past : PastFacts) → next_tally script f (tally_of script past) ≡ tally_of script (f ∷ past) }
+    ensures { (script : List FaultValue) (f : FactsValue) (past : PastFacts) →
+        next_tally script f (tally_of script past) ≡ tally_of script (f ∷ past) }
 {}

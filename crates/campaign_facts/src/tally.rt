@@ -38,7 +38,17 @@ impl Model for Tally {
 
     ghost Value = { TallyValue };
 
-    ghost view = { λ t. record { cycles = t.cycles; removals = t.removals; false_removals = t.false_removals; joins = t.joins; not_whole = t.not_whole; dropped = t.dropped; longest = t.longest; firsts = t.firsts; last = option_map facts_value t.last } };
+    ghost view = { λ t. record {
+      cycles = t.cycles;
+      removals = t.removals;
+      false_removals = t.false_removals;
+      joins = t.joins;
+      not_whole = t.not_whole;
+      dropped = t.dropped;
+      longest = t.longest;
+      firsts = t.firsts;
+      last = option_map facts_value t.last;
+    } };
 
     ghost invariant = { λ t. (t.cycles ≤ 2000) × (t.removals ≤ 255 * t.cycles) × (t.false_removals ≤ 255 * t.cycles)
         × (t.joins ≤ 255 * t.cycles) × (t.not_whole ≤ 255 * t.cycles) × (t.dropped ≤ 255 * t.cycles) };
@@ -250,8 +260,8 @@ impl Tally {
         self.longest
     }
 
-    /// By channel the first cycle of which an entry may be behind its removal: the one before the start of the transfer by which it
-    /// last joined, or 0.
+    /// By channel the first cycle of which an entry may be behind its removal: the one before the start of the transfer
+    /// by which it last joined, or 0.
     pub fn firsts(&self) -> [u32; 7]
         ensures { result ≡ self.now.firsts }
     {

@@ -9,7 +9,8 @@ use Rattle.campaign_facts.specs.Tallies.{TallyValue, tally_of}
 use Rattle.campaign_text.specs.Rows.{row_text}
 use Rattle.tally_laws.specs.ToldLengths.{longest_told}
 
--- what is counted of some cycles, where no removal is false, and the longest transfer is what the rules and the table tell
+-- what is counted of some cycles, where no removal is false, and the longest transfer is what the rules and the table
+-- tell
 abbrev pub lawful_tally : MissionValue → PastFacts → TallyValue
 lawful_tally M past = record (tally_of M.script past) { false_removals = 0; longest = longest_told M past }
 

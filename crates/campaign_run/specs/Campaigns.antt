@@ -23,7 +23,8 @@ bound_of M = join_bound M.rules.blocks M.rules.sweep M.rules.last (most_blocks M
 module _ (M : MissionValue) (rates : Rates) (x : ℕ) where
   -- a text is the row of the run of this number
   abbrev pub IsRow : ℕ → RunValue → TextValue → Type 0
-  IsRow run told row = TellsRun (run_mission M rates x run) run (state_of (sizes_of M) rates x run) (bound_of M) told row
+  IsRow run told row = TellsRun (run_mission M rates x run) run (state_of (sizes_of M) rates x run) (bound_of M) told
+      row
 
   -- a text is the line of the columns and the rows of the first n runs; what they tell, the latest first
   abbrev pub AreRows : ℕ → List RunValue → TextValue → Type 0
@@ -43,9 +44,9 @@ module _ (M : MissionValue) (rates : Rates) (x : ℕ) where
   BeginsCampaign n text =
       ((first : ℕ) × (runs : List RunValue) × (first ≤ n) × AreRows first runs text) ⊎ IsCampaign n text
 
-  -- What a campaign of so many runs does, by its answer: its text was written; or the sink failed within the line of the
-  -- columns, a row or the summary, behind the rows before; or memory ran out, and the rows of some runs were written,
-  -- each whole.
+  -- What a campaign of so many runs does, by its answer: its text was written; or the sink failed within the line of
+  -- the columns, a row or the summary, behind the rows before; or memory ran out, and the rows of some runs were
+  -- written, each whole.
   abbrev pub Campaigns : ℕ → SinkView → SinkView → Result (Unit {0}) WriteStop → Type 0
   Campaigns n out out' (Ok _) =
       (text : TextValue) × IsCampaign n text × Appends out.written out'.written text × (out'.faults ≡ out.faults)

@@ -26,7 +26,8 @@ counted M L n = tally_of M.script (facts_of (cycles_before M L n))
 module _ (may : List RuleValue → EntryValue → Type 0) (M : MissionValue) where
   -- between two cycles of a run that began with this bus, with what was counted of its cycles
   abbrev pub IsCounted : BusValue → WorldValue → BusValue → TallyValue → Type 0
-  IsCounted start w bus t = (L : Log) × (histories : Histories) × IsBetween may M start w bus L L histories × (t ≡ counted M L w.done)
+  IsCounted start w bus t = (L : Log) × (histories : Histories) × IsBetween may M start w bus L L histories
+      × (t ≡ counted M L w.done)
 
   -- the cycles before the stop ran, and were counted, and its own ran up to the end of its slot
   abbrev pub CountsToStop : StopValue → BusValue → WorldValue → BusValue → TallyValue → Type 0
@@ -36,12 +37,14 @@ module _ (may : List RuleValue → EntryValue → Type 0) (M : MissionValue) whe
 
   -- memory ran out: some cycles ran, and of the next one a front
   abbrev pub CountsShort : BusValue → BusValue → Type 0
-  CountsShort start bus = (L : Log) × (histories : Histories) × (n : ℕ) × HasCarried may M start bus L × HasRunPart M n L histories
+  CountsShort start bus = (L : Log) × (histories : Histories) × (n : ℕ) × HasCarried may M start bus L
+      × HasRunPart M n L histories
 
   -- what goes on with the run until n cycles ran does, by its answer
   abbrev pub CountsTo : BusValue → ℕ → WorldValue → BusValue → TallyValue → Result (Unit {0}) Halt → Type 0
   CountsTo start n w bus t (Ok _) = IsCounted start w bus t × (w.done ≡ n)
-  CountsTo start n w bus t (Err (halt.Disturbed cycle slot set active)) = CountsToStop (stop_value cycle slot set active) start w bus t
+  CountsTo start n w bus t (Err (halt.Disturbed cycle slot set active)) =
+      CountsToStop (stop_value cycle slot set active) start w bus t
   CountsTo start n w bus t (Err halt.NoMemory) = CountsShort start bus
 
 -- ---- the row of a run

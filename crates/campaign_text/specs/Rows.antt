@@ -44,10 +44,11 @@ slash_joined (piece ∷ pieces) = join_with_byte 47 (piece ∷ pieces)
 -- the kinds of entries that are there, with a slash between each two; where none is, the channel was not whole
 unfoldable pub kinds_text : Bool → Bool → Bool → Bool → TextValue
 kinds_text crash damage forge lose =
-    slash_joined (name_if crash (codes "crash") ++ (name_if damage (codes "damage") ++ (name_if forge (codes "forge") ++ name_if lose (codes "lose"))))
+    slash_joined (name_if crash (codes "crash")
+    ++ (name_if damage (codes "damage") ++ (name_if forge (codes "forge") ++ name_if lose (codes "lose"))))
 
--- What names a disturbed channel: a crash or a damage from its first cycle that counts on, a lost or a forged piece in the cycle of
--- the stop.
+-- What names a disturbed channel: a crash or a damage from its first cycle that counts on, a lost or a forged piece in
+-- the cycle of the stop.
 unfoldable pub cause_text : List FaultValue → ℕ → ℕ → Channel → TextValue
 cause_text script first cycle q =
     kinds_text (is_named_by Crash script q first cycle) (is_named_by Damage script q first cycle)
@@ -78,7 +79,8 @@ run_columns run state cycles stop =
 -- where it stopped, and why: slot, disturbed, why
 unfoldable pub stop_columns : List FaultValue → TallyValue → Option StopValue → TextValue
 stop_columns script t stop =
-    stop_slot_text stop ++ comma ++ disturbed_text (disturbed_set stop) ++ comma ++ why_text script t.firsts t.cycles (disturbed_set stop) ++ comma
+    stop_slot_text stop ++ comma ++ disturbed_text (disturbed_set stop) ++ comma
+    ++ why_text script t.firsts t.cycles (disturbed_set stop) ++ comma
 
 -- the faults of the cycles that began: crashes, restarts, damages, losses, forgeries
 unfoldable pub fault_columns : List FaultValue → ℕ → TextValue
@@ -90,15 +92,16 @@ fault_columns script cycles =
 -- what came of it: removals, false_removals, joins, not_whole, dropped
 unfoldable pub outcome_columns : TallyValue → TextValue
 outcome_columns t =
-    decimal t.removals ++ comma ++ decimal t.false_removals ++ comma ++ decimal t.joins ++ comma ++ decimal t.not_whole ++ comma
+    decimal t.removals ++ comma ++ decimal t.false_removals ++ comma ++ decimal t.joins ++ comma ++ decimal t.not_whole
+    ++ comma
     ++ decimal t.dropped ++ comma
 
 -- its longest transfer: longest_transfer, bound
 unfoldable pub transfer_columns : ℕ → Option ℕ → TextValue
 transfer_columns longest bound = length_text longest ++ comma ++ bound_text bound ++ line_end
 
--- the row of a run: its number, the number that it was drawn from, its script, what was counted of its cycles, its stop, if
--- there was one, and the most cycles that a transfer of the mission takes, if there is such a bound
+-- the row of a run: its number, the number that it was drawn from, its script, what was counted of its cycles, its
+-- stop, if there was one, and the most cycles that a transfer of the mission takes, if there is such a bound
 unfoldable pub row_text : ℕ → ℕ → List FaultValue → TallyValue → Option StopValue → Option ℕ → TextValue
 row_text run state script t stop bound =
     run_columns run state t.cycles stop

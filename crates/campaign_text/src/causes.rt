@@ -49,7 +49,8 @@ fn cause_text(script: &Script, first: u32, cycle: u32, channel: u8) -> &'static 
 
 /// Appends the piece at this place of a list, each but the first after a plus.
 fn push_piece(text: &mut String, place: usize, piece: &str) -> Result<(), AllocError>
-    ensures { OnOk result (string_bytes text.new ≡ string_bytes text.old ++ (if place == 0 then piece.now else 43 ∷ piece.now)) }
+    ensures { OnOk result (string_bytes text.new
+        ≡ string_bytes text.old ++ (if place == 0 then piece.now else 43 ∷ piece.now)) }
 {
     if place > 0 {
         text.push('+')?;
@@ -68,7 +69,8 @@ fn has_bit(mask: u8, channel: u8) -> bool
 /// Appends the channel where its bit is set.
 fn push_member(list: &mut Vec<u8>, mask: u8, channel: u8) -> Result<(), AllocError>
     requires { channel < 7 }
-    ensures { OnOk result (list.new.items ≡ list.old.items ++ (if (mask / 2 ^ channel) % 2 == 1 then channel ∷ [] else [])) }
+    ensures { OnOk result (list.new.items
+        ≡ list.old.items ++ (if (mask / 2 ^ channel) % 2 == 1 then channel ∷ [] else [])) }
 {
     if has_bit(mask, channel) {
         list.push(channel)?;

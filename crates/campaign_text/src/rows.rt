@@ -169,8 +169,8 @@ fn transfer_columns(alloc: Global, longest: u32, bound: Option<u32>) -> Result<S
     format!(in alloc; "{longest},{bound}\n")
 }
 
-/// The row of a run: its number, the number that it was drawn from, its script, what was counted of its cycles, its stop, if
-/// there was one, and the most cycles that a transfer of the mission takes, if there is such a bound.
+/// The row of a run: its number, the number that it was drawn from, its script, what was counted of its cycles, its
+/// stop, if there was one, and the most cycles that a transfer of the mission takes, if there is such a bound.
 #[tactic(auto, unfolding(crate::specs::Rows::row_text))]
 pub fn row_text(
     alloc: Global,

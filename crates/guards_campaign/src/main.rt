@@ -44,7 +44,16 @@ fn answer<
     X: Operation + Sync,
     Y: Operation + Sync,
     Z: Operation + Sync,
->(rt: &R, alloc: Global, words: &Words, src: &mut S, out: &mut K, sat: X, mid: Y, ramp: Z) -> CampaignStatus
+>(
+    rt: &R,
+    alloc: Global,
+    words: &Words,
+    src: &mut S,
+    out: &mut K,
+    sat: X,
+    mid: Y,
+    ramp: Z,
+) -> CampaignStatus
     requires sat { X.computes codes.Sat sat }
     requires mid { Y.computes codes.Mid mid }
     requires ramp { Z.computes codes.Ramp ramp }

@@ -12,15 +12,15 @@ ghost use Rattle.guards_runs.specs.Promises.{HasRun};
 ghost use Rattle.campaign_facts.specs.Facts.{facts_of, false_removals, longest_transfer};
 ghost use Rattle.tally_laws.specs.ToldLengths.{longest_told};
 
-/// No removal is false: in a run over a bus that does what the script says, each channel that is removed is named by an entry, as
-/// its channel or as the sender, since it sent the request by which it last joined, or since the first cycle.
+/// No removal is false: in a run over a bus that does what the script says, each channel that is removed is named by an
+/// entry, as its channel or as the sender, since it sent the request by which it last joined, or since the first cycle.
 pub fn removals_are_named()
     ensures { (M : MissionValue) (L : Log) (n : ℕ) → IsMission M → n ≤ M.cycles → HasRun M L n →
         AllByRecursion (IsScripted (bus_rules M)) L → false_removals M.script (facts_of (cycles_before M L n)) ≡ 0 }
 {}
 
-/// The longest transfer of a run that ended by a join has the length that the mission's rules and its table tell of the row of its
-/// start.
+/// The longest transfer of a run that ended by a join has the length that the mission's rules and its table tell of the
+/// row of its start.
 pub fn transfers_have_their_length()
     ensures { (M : MissionValue) (L : Log) (n : ℕ) → IsMission M → n ≤ M.cycles →
         longest_transfer (facts_of (cycles_before M L n)) ≡ longest_told M (facts_of (cycles_before M L n)) }
