@@ -10,7 +10,7 @@ use std::alloc::{AllocError, Global};
 
 /// The most cycles that a transfer takes: each copies at least `sweep - writes` blocks more than are written again, and
 /// the last `last` blocks are copied at once.
-fn join_bound(blocks: u16, sweep: u16, last: u16, writes: u16) -> Option<u32>
+pub fn join_bound(blocks: u16, sweep: u16, last: u16, writes: u16) -> Option<u32>
     ensures { result ≡ join_bound blocks sweep last writes }
 {
     if writes >= sweep || writes > last {

@@ -7,5 +7,5 @@ mod head;
 mod rows;
 
 pub use check::check_text;
-pub use head::head_text;
+pub use head::{head_text, join_bound};
 pub use rows::row_text;
