@@ -239,11 +239,11 @@ module _ (M : MissionValue) (L : Log) (n : ℕ) (mission : IsMission M) (early :
 
     first_low : (m : ℕ) → m ≤ n → first_of m ≤ m
     first_low zero few = omega arith
-    first_low (suc m) few = by (has (now m).joined q) refl
+    first_low (suc m) few = by (first_low m (omega (arith, few))) (has (now m).joined q) refl
       where
-        by : (b : Bool) → has (now m).joined q ≡ b → first_of (suc m) ≤ suc m
-        by true j = let here = place m (omega (arith, few)) j in let is = first_if m true j in omega (arith, here, is)
-        by false new = let before = first_low m (omega (arith, few)) in let is = first_if m false new in omega (arith, before, is)
+        by : first_of m ≤ m → (b : Bool) → has (now m).joined q ≡ b → first_of (suc m) ≤ suc m
+        by before true j = let here = place m (omega (arith, few)) j in let is = first_if m true j in omega (arith, here, is)
+        by before false new = let is = first_if m false new in omega (arith, before, is)
 
     -- an active channel that nothing befell since it last joined
     pub record IsGood (m : ℕ) : Type 0 where
@@ -253,10 +253,12 @@ module _ (M : MissionValue) (L : Log) (n : ℕ) (mission : IsMission M) (early :
 
     pub good : (m : ℕ) → m ≤ n → has (active_set M (past m)) q ≡ true → ((d : ℕ) → first_of m ≤ d → d < m → Quiet d) → IsGood m
     good zero few there quiet = record { spotless = refl; risen = ap (λ (b : Bool). cond b up down) there; unmarked = refl }
-    good (suc m) few there quiet = by (has (now m).joined q) refl
+    good (suc m) few there quiet =
+        by (λ there_before quiet_before. good m (omega (arith, few)) there_before quiet_before) (has (now m).joined q) refl
       where
-        by : (b : Bool) → has (now m).joined q ≡ b → IsGood (suc m)
-        by true j =
+        by : (has (active_set M (past m)) q ≡ true → ((d : ℕ) → first_of m ≤ d → d < m → Quiet d) → IsGood m) →
+            (b : Bool) → has (now m).joined q ≡ b → IsGood (suc m)
+        by before true j =
             let is = first_if m true j in
             let calm : (d : ℕ) → start_of (now m).transfer - 1 ≤ d → d ≤ m → Quiet d = λ d late under. quiet d (omega (arith, is, late)) (omega (arith, under)) in
             record {
@@ -264,10 +266,10 @@ module _ (M : MissionValue) (L : Log) (n : ℕ) (mission : IsMission M) (early :
               risen = rises m (omega (arith, few)) j calm;
               unmarked = comes_unmarked m (omega (arith, few)) j calm;
             }
-        by false new =
+        by before false new =
             let is = first_if m false new in
             let active : has (now m).active q ≡ true = active_if_old M (past m) (now m) q low there new in
-            let was = good m (omega (arith, few)) (subst (λ (s : ChannelSet). has s q ≡ true) (active-is M L (past m)) active) (λ d late under. quiet d (omega (arith, is, late)) (omega (arith, under))) in
+            let was = before (subst (λ (s : ChannelSet). has s q ≡ true) (active-is M L (past m)) active) (λ d late under. quiet d (omega (arith, is, late)) (omega (arith, under))) in
             let calm = quiet m (omega (arith, is, first_low m (omega (arith, few)))) (omega arith) in
             let mode = mode_stays m up calm was.risen (λ restarted. refl) Switch refl in
             let clean = undamaged_still m calm was.unmarked in

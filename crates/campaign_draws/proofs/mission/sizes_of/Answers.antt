@@ -11,8 +11,7 @@ invariant_of-result c =
     let channels = ap (λ (r : RulesValue). r.channels) seen in
     let blocks = ap (λ (r : RulesValue). r.blocks) seen in
     let version = ap (λ (r : RulesValue). r.version) seen in
-    let outputs = ap length c.outputs.ensures in
-    (
+    let outputs = ap length c.outputs.ensures in (
       omega (arith, channels, size.many),
       omega (arith, channels, size.seven),
       omega (arith, c.cycles.ensures, fit.cycles),
