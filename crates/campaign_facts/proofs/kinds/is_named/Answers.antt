@@ -1,4 +1,3 @@
-use Rattle.std.proofs.Common.{◌&&◌}
 use Rattle.campaign_facts.specs.Facts.{names}
 use Rattle.campaign_facts.proofs.Parts.{said_by_parts}
 use Rattle.campaign_facts.proofs.kinds.is_named.Goals as goal
