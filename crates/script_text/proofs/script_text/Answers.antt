@@ -1,4 +1,4 @@
-use Rattle.std.proofs.Common.{◌≡◌, ◌<◌, ◌≤◌, ◌∙◌, length, flat_map, ap, arith}
+use Rattle.std.proofs.Common.{◌<◌, ◌≤◌, ◌∙◌, length, flat_map, ap, arith}
 use Rattle.std.proofs.lemmas.List.{take_all}
 use Rattle.fault_script.specs.Entries.{fault_value}
 use Rattle.fault_script.specs.declared.script.Fault.{Fault}
