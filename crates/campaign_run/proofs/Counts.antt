@@ -13,7 +13,8 @@ use Rattle.guards_model.specs.Transfers.{TransferValue}
 use Rattle.guards_runs.specs.Cycles.{Cycle, Past, cycles_before, cycle_at}
 use Rattle.guards_runs.specs.Report.{cycle_record, line_of, channels_running_in}
 use Rattle.guards_world.specs.Worlds.{WorldValue, HaltValue, disturbed, no_memory, first_world}
-use Rattle.guards_world.specs.WorldCycle.{BusValue, PassesCycle}
+use Rattle.guards_model.specs.Network.{BusValue}
+use Rattle.guards_world.specs.WorldCycle.{PassesCycle}
 use Rattle.icn_world.specs.declared.world.Halt.{Halt}
 use Rattle.icn_world.specs.declared.world.Halt.TheVariants as halt
 use Rattle.icn_world.specs.Halts.{halt_value}

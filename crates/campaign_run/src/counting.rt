@@ -2,7 +2,8 @@
 ghost use Rattle.std.specs.Prelude.{◌≡◌, ◌<◌, suc, [], OnOk};
 ghost use Rattle.guards_model.specs.Missions.{MissionValue, IsMission, bus_rules};
 ghost use Rattle.guards_world.specs.Worlds.{first_world};
-ghost use Rattle.guards_world.specs.WorldCycle.{BusValue, MayCycle};
+ghost use Rattle.guards_model.specs.Network.{BusValue};
+ghost use Rattle.guards_world.specs.WorldCycle.{MayCycle};
 ghost use Rattle.campaign_facts.specs.Tallies.{tally_of};
 ghost use Rattle.campaign_run.specs.Counting.{CountsTo, IsCounted};
 
