@@ -7,4 +7,3 @@ mod missions;
 mod row;
 
 pub use campaign::run_campaign;
-pub use row::run_row;
