@@ -1,0 +1,28 @@
+-- A script has no entry where it has none for the bus and no other.
+use Rattle.std.proofs.Common.{◌≡◌, Bool, true, false, not, List, [], ◌∷◌, ◌&&◌, ◌==◌, length, map, filter, refl, sym, ap, ◌∙◌}
+use Rattle.std.specs.Prelude.{filter_map}
+use Rattle.std.proofs.lemmas.List.{length-map}
+use Rattle.guards_model.specs.BusRules.{RuleValue}
+use Rattle.guards_model.specs.Faults.{FaultValue, crash, restart, damage, bus}
+use Rattle.guards_model.specs.Missions.{bus_rule}
+use Rattle.fault_script.specs.Entries.{fault_value, is_for_bus}
+use Rattle.fault_script.specs.declared.script.Fault.{Fault}
+
+and_false : (a : Bool) → (a && false) ≡ false
+and_false true = refl
+and_false false = refl
+
+parts_empty : (script : List FaultValue) →
+    (length (filter_map bus_rule script) == 0 && length (filter (λ entry. not (is_for_bus entry)) script) == 0)
+    ≡ (length script == 0)
+parts_empty [] = refl
+parts_empty (crash q c slot ∷ script) = and_false (length (filter_map bus_rule script) == 0)
+parts_empty (restart q c ∷ script) = and_false (length (filter_map bus_rule script) == 0)
+parts_empty (damage q c block word value ∷ script) = and_false (length (filter_map bus_rule script) == 0)
+parts_empty (bus rule ∷ script) = refl
+
+pub empty_by_parts : (rules : List RuleValue) (others : List Fault) (script : List FaultValue) →
+    rules ≡ filter_map bus_rule script → map fault_value others ≡ filter (λ entry. not (is_for_bus entry)) script →
+    (length rules == 0 && length others == 0) ≡ (length script == 0)
+empty_by_parts rules others script same_rules same_others =
+    rw (same_rules, sym (length-map others fault_value), same_others) (parts_empty script)

@@ -1,0 +1,4 @@
+pub mod Drawn
+pub mod Passing
+pub mod Kept
+pub mod DrawnMissions

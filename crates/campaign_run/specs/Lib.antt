@@ -1,0 +1,3 @@
+pub mod Counting
+pub mod Campaigns
+pub mod Ends

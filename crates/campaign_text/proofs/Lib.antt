@@ -1,0 +1,2 @@
+pub mod PlusTexts
+pub mod TotalsKept
