@@ -20,6 +20,7 @@ use Rattle.tally_laws.proofs.Unnamed.{none_false}
 use Rattle.campaign_draws.specs.declared.rates.Rates.{Rates}
 use Rattle.campaign_draws.specs.Drawing.{drawn_mission, run_mission, sizes_of, state_of}
 use Rattle.campaign_draws.proofs.DrawnMissions.{drawn_is_mission}
+use Rattle.campaign_run.proofs.Rows.{told_run}
 use Rattle.campaign_run.specs.Campaigns.{AreRows, IsRow, bound_of}
 use Rattle.campaign_run.specs.Counting.{IsToldRun, TellsRun, counted}
 use Rattle.campaign_laws.specs.LawfulRows.{IsLawfulRow, lawful_tally}
@@ -52,7 +53,7 @@ record IsLawful (M : MissionValue) (told : RunValue) : Type 0 where
   within : count ≤ M.cycles
   ran : HasRun M log count
   scripted : AllByRecursion (IsScripted (bus_rules M)) log
-  is : told ≡ record { counts = lawful_tally M (facts_of (cycles_before M log count)); stop = stop }
+  is : told ≡ told_run (lawful_tally M (facts_of (cycles_before M log count))) stop
 
 told_lawful : (M : MissionValue) (told : RunValue) → IsMission M → IsToldRun M told → IsLawful M told
 told_lawful M told mission (L, histories, each, inl (cycles, is)) =
@@ -65,7 +66,7 @@ told_lawful M told mission (L, histories, each, inl (cycles, is)) =
       ran = ran;
       scripted = each;
       is = is
-          ∙ ap (λ (t : TallyValue). record { counts = t; stop = None })
+          ∙ ap (λ (t : TallyValue). told_run t None)
           (lawful M L M.cycles mission (omega arith) ran each);
     }
 told_lawful M told mission (L, histories, each, inr (stop, to, is)) =
@@ -79,7 +80,7 @@ told_lawful M told mission (L, histories, each, inr (stop, to, is)) =
       ran = ran;
       scripted = each;
       is = is
-          ∙ ap (λ (t : TallyValue). record { counts = t; stop = Some stop })
+          ∙ ap (λ (t : TallyValue). told_run t (Some stop))
           (lawful M L stop.cycle mission (omega (arith, to.within)) ran each);
     }
 

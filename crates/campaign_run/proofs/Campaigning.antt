@@ -1,5 +1,5 @@
 -- One more row of a campaign, and its summary.
-use Rattle.std.proofs.Common.{◌≡◌, ◌≤◌, ◌<◌, ◌+◌, ℕ, zero, suc, List, [], ◌∷◌, ◌++◌, Option, Result, Ok, Err, refl, sym, ap, subst, ◌∙◌, inl, inr, arith}
+use Rattle.std.proofs.Common.{◌≡◌, ◌<◌, ℕ, zero, suc, List, [], ◌∷◌, ◌++◌, Option, Result, Ok, Err, refl, sym, ap, subst, ◌∙◌, inl, inr, arith}
 use Rattle.std.proofs.KnownBytes.{Appends-trans}
 use Rattle.std.specs.Io.KnownBytes.{Appends}
 use Rattle.guards_io.specs.Views.{SinkView}
@@ -28,11 +28,11 @@ drawn_row M m given rates x run state bound told text same made number bounded t
     (subst (λ (k : ℕ). TellsRun given run k bound told text) number tells))
 
 -- a mission that bytes are is the only one
+same_ok : (E : Type 0) (m M : MissionValue) → ◌≡◌ {A = Result MissionValue E} (Ok m) (Ok M) → m ≡ M
+same_ok E m M same = cc
+
 pub same_read : {E : Type 0} (read : Result MissionValue E) (m M : MissionValue) → read ≡ Ok m → read ≡ Ok M → m ≡ M
-same_read read m M one two = same_ok (sym one ∙ two)
-  where
-    same_ok : Ok {E = E} m ≡ Ok M → m ≡ M
-    same_ok h = cc
+same_read read m M one two = same_ok _ m M (sym one ∙ two)
 
 -- writing a row
 pub puts_row : (M : MissionValue) (rates : Rates) (run x next : ℕ) (totals totals' : TotalsValue) (out out' : SinkView)

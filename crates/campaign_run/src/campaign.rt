@@ -72,7 +72,7 @@ fn put_row<K: Sink, G: Gate, C: Calls + Sync, R: Threads + Wait + Sync>(
     gate: &G,
     natives: &C,
 ) -> Result<(), WriteStop>
-    requires { totals.old.runs < 10000 }
+    requires few { totals.old.runs < 10000 }
     ensures count { OnOk result (totals.new.runs ≡ suc totals.old.runs) }
     ensures row { (M : MissionValue) → mission_of bytes.now ≡ Ok M → PutsRow M rates run draws.old draws.new
         totals.old totals.new (K.seen out.old) (K.seen out.new) result }
