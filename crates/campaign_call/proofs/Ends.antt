@@ -1,5 +1,5 @@
 -- A campaign is written to its end, unless memory runs out or a fault comes.
-use Rattle.std.proofs.Common.{◌≡◌, ◌≤◌, ◌⊎◌, ◌==◌, inl, inr, ℕ, Bool, true, false, List, length, Option, Some, None, Result, Ok, Err, refl, sym, ap, subst, ◌∙◌}
+use Rattle.std.proofs.Common.{◌≡◌, ◌≤◌, ◌⊎◌, ◌==◌, inl, inr, ℕ, true, false, List, length, Option, Some, None, Result, Ok, Err, refl, sym, ap, subst, ◌∙◌}
 use Rattle.guards_io.specs.Causes.{Rose}
 use Rattle.guards_io.specs.Views.{SinkView, SourceView}
 use Rattle.guards_io.specs.declared.writing.WriteStop.{WriteStop}

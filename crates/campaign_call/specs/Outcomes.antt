@@ -1,5 +1,5 @@
 -- What the call of a campaign does, by its status. This project's own.
-use Rattle.std.specs.Prelude.{◌≡◌, ◌⊎◌, ◌≤◌, ℕ, Bool, true, false, ◌==◌, List, length, Option, Some, None, Result, Ok, Err}
+use Rattle.std.specs.Prelude.{◌≡◌, ◌⊎◌, ◌≤◌, ℕ, true, false, ◌==◌, List, length, Option, Some, None, Result, Ok, Err}
 use Rattle.guards_io.specs.Causes.{Rose}
 use Rattle.guards_io.specs.Views.{SinkView, SourceView}
 use Rattle.guards_io.specs.Writes.{WritesLine}
@@ -20,7 +20,6 @@ use Rattle.campaign_call.specs.Documents.{run_document}
 use Rattle.campaign_call.specs.declared.status.CampaignStatus.{CampaignStatus}
 use Rattle.campaign_call.specs.declared.status.CampaignStatus.TheVariants.{HasFaults, Ended}
 use Rattle.campaign_call.specs.Lines.{campaign_usage, faults_line}
-use Rattle.campaign_call.specs.Requests.{request_of}
 
 -- the exit status: 3 for a mission with faults, and else that of `guards`
 abbrev pub campaign_code : CampaignStatus → ℕ

@@ -1,5 +1,5 @@
 //! The top call: all that the program does.
-ghost use Rattle.std.specs.Prelude.{◌≡◌, ◌==◌, length, Ok};
+ghost use Rattle.std.specs.Prelude.{◌≡◌, ◌&&◌, ◌==◌, length, Ok};
 ghost use Rattle.mission_text.specs.Mission.{mission_of};
 ghost use Rattle.campaign_call.specs.Outcomes.{AnswersBytes, AnswersMission, CampaignCompletes, CampaignOutcome, Does, status_of};
 ghost use Rattle.campaign_call.specs.Requests.{IsWithin, request_of};
@@ -20,11 +20,19 @@ use std::alloc::Global;
 use std::sync::Wait;
 use std::thread::Threads;
 
+fn both(first: bool, second: bool) -> bool
+    ensures { result ≡ (first && second) }
+{
+    first && second
+}
+
 /// Whether a script has no entry.
 fn is_empty(script: &Script) -> bool
     ensures { result ≡ (length script.now == 0) }
 {
-    script.rules().is_empty() && script.others().is_empty()
+    let no_rules = script.rules().is_empty();
+    let no_others = script.others().is_empty();
+    both(no_rules, no_others)
 }
 
 /// The status of a campaign that was run.

@@ -7,7 +7,7 @@ use Rattle.guards_model.specs.Network.{Log}
 use Rattle.guards_model.specs.Rounds.{Histories}
 use Rattle.guards_model.specs.ScriptedBus.{IsScripted}
 use Rattle.guards_model.specs.Texts.{TextValue, StopValue}
-use Rattle.guards_runs.specs.Cycles.{Cycle, Past, cycles_before, cycle_at}
+use Rattle.guards_runs.specs.Cycles.{Past, cycles_before, cycle_at}
 use Rattle.guards_runs.specs.Disturbed.{stop_in, stop_of}
 use Rattle.guards_runs.specs.Due.{AreDueThrough, IsDue, carries_through}
 use Rattle.guards_runs.specs.Promises.{IsRun}

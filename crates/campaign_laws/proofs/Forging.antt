@@ -1,10 +1,9 @@
 -- Drawn scripts forge vote frames alone.
-use Rattle.std.proofs.Common.{◌≡◌, ℕ, Bool, true, false, List, [], ◌∷◌, refl, ◌∙◌, sym}
-use Rattle.std.specs.Prelude.{Some, filter_map, ◌||◌, not, take}
-use Rattle.std.specs.List.{AllByRecursion, list_all}
+use Rattle.std.proofs.Common.{◌≡◌, ℕ, Bool, true, false, List, [], ◌∷◌, refl}
+use Rattle.std.specs.Prelude.{filter_map}
+use Rattle.std.specs.List.{list_all}
 use Rattle.guards_model.specs.declared.Slot.{Slot}
 use Rattle.guards_model.specs.declared.Slot.TheVariants.{Request, Round1, Round2, Round3, Tasks, Vote, Sweep, Final, Switch, Output}
-use Rattle.guards_model.specs.Slots.{same_slot}
 use Rattle.guards_model.specs.BusRules.{RuleValue, ActValue, lose, forge}
 use Rattle.guards_model.specs.Faults.{FaultValue, crash, restart, damage, bus}
 use Rattle.guards_model.specs.Missions.{MissionValue, bus_rule, bus_rules}
