@@ -1,5 +1,6 @@
 -- The rows of a campaign, one more at a time, and its summary.
-use Rattle.std.proofs.Common.{◌≡◌, ◌≤◌, ◌<◌, ◌+◌, ℕ, zero, suc, List, [], ◌∷◌, ◌++◌, Option, Result, Ok, Err, IfOk, refl, sym, ap, subst, ◌∙◌, inl, inr, arith, string_bytes}
+use Rattle.std.proofs.Common.{◌≡◌, ◌≤◌, ◌<◌, ◌+◌, ℕ, zero, suc, List, [], ◌∷◌, ◌++◌, length, Option, Result, Ok, Err, IfOk, refl, sym, ap, subst, ◌∙◌, inl, inr, arith, string_bytes}
+use Rattle.std.specs.Prelude.{slice_index_or}
 use Rattle.std.proofs.KnownBytes.{Appends-trans}
 use Rattle.std.specs.Io.KnownBytes.{Appends}
 use Rattle.guards_io.specs.Views.{SinkView}
@@ -10,11 +11,11 @@ use Rattle.guards_io.proofs.WritesLemmas.{writes_then}
 use Rattle.guards_model.specs.Missions.{MissionValue}
 use Rattle.guards_model.specs.Texts.{TextValue}
 use Rattle.campaign_draws.specs.declared.rates.Rates.{Rates}
-use Rattle.campaign_draws.specs.Drawing.{drawn_mission, run_mission, sizes_of, state_of}
+use Rattle.campaign_draws.specs.Drawing.{drawn_mission}
 use Rattle.campaign_text.specs.Rows.{head_row}
 use Rattle.campaign_text.specs.Summaries.{RunValue, TotalsValue, summary_text, totals_of, totals_with}
 use Rattle.campaign_text.proofs.TotalsKept.{totals_go_on}
-use Rattle.campaign_run.specs.Beside.{HasPut, PutsRow, PutsTo, TellsFrom, told}
+use Rattle.campaign_run.specs.Beside.{HasPut, HasRows, PutsRow, PutsTo, told}
 use Rattle.campaign_run.specs.Campaigns.{AreRows, Campaigns, IsRow, PutsText, bound_of}
 use Rattle.campaign_run.specs.Counting.{TellsRun}
 use Rattle.campaign_run.specs.declared.row.Row.{Row}
@@ -88,11 +89,25 @@ module _ (M : MissionValue) (rates : Rates) (x : ℕ) (begun : SinkView) where
         (memory_ends n all totals a b (omega (arith, lt)) same at)
 
     -- the row at this place
-    pub place_put : {E : Type 0} (row : Result Row E) (put : Result (Unit {0}) WriteStop) →
+    place_put : {E : Type 0} (row : Result Row E) (put : Result (Unit {0}) WriteStop) →
         IfOk row (λ r. IsRow M rates x n (told r) (string_bytes r.text)) → PutsRow row totals totals' a b put →
         PutsTo M rates x begun all (suc n) totals' b put
     place_put (Ok row) put is puts = row_put (told row) (string_bytes row.text) put is puts.1 puts.0
     place_put (Err e) put is puts = no_row put puts.0 puts.1
+
+  -- the row at this place of rows that were made
+  pub one_more_put : {E : Type 0} (first k all : ℕ) (rows : List (Result Row E)) (row : Result Row E)
+      (totals totals' : TotalsValue) (a b : SinkView) (put : Result (Unit {0}) WriteStop) → k < length rows →
+      first + length rows ≤ all → HasRows M rates x first rows → row ≡ slice_index_or rows k row →
+      HasPut M rates x begun (first + k) totals a → PutsRow row totals totals' a b put →
+      PutsTo M rates x begun all (first + (k + 1)) totals' b put
+  one_more_put {E} first k all rows row totals totals' a b put lt le has is at puts =
+      let next : suc (first + k) ≡ first + (k + 1) = omega arith in
+      let within : first + k < all = omega (arith, lt, le) in
+      let tells = subst (λ (made : Result Row E). IfOk made (λ r. IsRow M rates x (first + k) (told r)
+          (string_bytes r.text))) (sym is) (has k row lt) in
+      subst (λ n. PutsTo M rates x begun all n totals' b put) next
+      (place_put (first + k) all totals totals' a b within at row put tells puts)
 
   -- the lines of the summary behind the rows
   lines_put : (n : ℕ) (runs : List RunValue) (text lines : TextValue) (a b : SinkView)

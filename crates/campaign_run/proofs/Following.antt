@@ -1,5 +1,5 @@
 -- The runs that follow one another, from the numbers that they are drawn from to their rows.
-use Rattle.std.proofs.Common.{◌≡◌, ◌<◌, ◌+◌, ℕ, zero, suc, List, [], ◌∷◌, ◌++◌, length, get_or, Result, IfOk, refl, sym, ap, subst, ◌∙◌, arith, string_bytes}
+use Rattle.std.proofs.Common.{◌≡◌, ◌<◌, ◌+◌, ℕ, zero, suc, List, [], ◌∷◌, ◌++◌, length, get_or, Result, Ok, Err, IfOk, refl, sym, ap, subst, ◌∙◌, arith, string_bytes}
 use Rattle.std.specs.Prelude.{slice_index_or}
 use Rattle.std.proofs.lemmas.List.{get_or_append_left, get_or_push}
 use Rattle.std.proofs.lemmas.Result.{IfOk-weaker}
@@ -36,18 +36,27 @@ module _ (S : SizesValue) (rates : Rates) (x : ℕ) where
       (get_or_push states y 0 n len ∙ is))
 
 -- the rows that were drawn from the numbers that follow one another are those of the runs from the first one on
-pub rows_follow : {E : Type 0} (M : MissionValue) (rates : Rates) (x first count start : ℕ) (states : List ℕ)
-    (rows : List (Result Row E)) → length rows ≡ count → start ≡ state_of (sizes_of M) rates x first →
-    AreStates (sizes_of M) rates start count states →
-    ((place : ℕ) (d : Result Row E) → place < count →
-    IfOk (slice_index_or rows place d) (TellsFrom M rates (first + place) (slice_index_or states place 0))) →
-    HasRows M rates x first rows
-unfolding run_mission
-rows_follow M rates x first count start states rows len begins are tell place d lt =
-    let inside : place < count = omega (arith, lt, len) in
-    let state : slice_index_or states place 0 ≡ state_of (sizes_of M) rates x (first + place) =
-    are place inside ∙ ap (λ (s : ℕ). state_of (sizes_of M) rates s place) begins
-    ∙ later_state (sizes_of M) rates x first place in
-    IfOk-weaker (slice_index_or rows place d) (TellsFrom M rates (first + place) (slice_index_or states place 0))
-    (λ row. IsRow M rates x (first + place) (told row) (string_bytes row.text))
-    (λ row tells. subst (λ (s : ℕ). TellsFrom M rates (first + place) s row) state tells) (tell place d inside)
+module _ {E : Type 0} (M : MissionValue) (rates : Rates) (x first count start : ℕ) (states : List ℕ)
+    (begins : start ≡ state_of (sizes_of M) rates x first) (are : AreStates (sizes_of M) rates start count states) where
+  -- each row tells of the run that was drawn from the number at its place
+  abbrev pub TellsEach : List (Result Row E) → Type 0
+  TellsEach rows = (place : ℕ) (d : Result Row E) → place < count →
+      IfOk (slice_index_or rows place d) (TellsFrom M rates (first + place) (slice_index_or states place 0))
+
+  rows_follow : (rows : List (Result Row E)) → length rows ≡ count → TellsEach rows → HasRows M rates x first rows
+  unfolding run_mission
+  rows_follow rows len tell place d lt =
+      let inside : place < count = omega (arith, lt, len) in
+      let state : slice_index_or states place 0 ≡ state_of (sizes_of M) rates x (first + place) =
+      are place inside ∙ ap (λ (s : ℕ). state_of (sizes_of M) rates s place) begins
+      ∙ later_state (sizes_of M) rates x first place in
+      IfOk-weaker (slice_index_or rows place d) (TellsFrom M rates (first + place) (slice_index_or states place 0))
+      (λ row. IsRow M rates x (first + place) (told row) (string_bytes row.text))
+      (λ row tells. subst (λ (s : ℕ). TellsFrom M rates (first + place) s row) state tells) (tell place d inside)
+
+  -- the same, where there are rows
+  pub rows_made : {V F : Type 0} (items : V → List (Result Row E)) (made : Result V F) →
+      IfOk made (λ v. length (items v) ≡ count) → IfOk made (λ v. TellsEach (items v)) →
+      IfOk made (λ v. HasRows M rates x first (items v))
+  rows_made items (Ok v) len tell = rows_follow (items v) len tell
+  rows_made items (Err e) len tell = tt

@@ -1,5 +1,5 @@
 //! The next runs of a campaign, side by side, and their rows in order.
-ghost use Rattle.std.specs.Prelude.{◌≡◌, ◌≤◌, ◌<◌, ◌+◌, ℕ, length, Ok, IfOk, OnOk, vec_len, slice_index_or};
+ghost use Rattle.std.specs.Prelude.{◌≡◌, ◌≤◌, ◌<◌, ◌+◌, ℕ, length, Ok, IfOk, OnOk, slice_index_or};
 ghost use Rattle.std.specs.Thread.{IsSync};
 ghost use Rattle.guards_model.specs.Missions.{MissionValue};
 ghost use Rattle.mission_text.specs.Mission.{mission_of};
@@ -55,7 +55,7 @@ fn next_states(
     count: u32,
     draws: &mut Draws,
 ) -> Result<Vec<u64>, AllocError>
-    ensures count { IfOk result (λ states. vec_len states ≡ count) }
+    ensures count { IfOk result (λ states. length states.items ≡ count) }
     ensures states { IfOk result (λ states. (place : ℕ) → place < count →
         slice_index_or states.items place 0 ≡ state_of sizes rates draws.old place) }
     ensures number { OnOk result (draws.new ≡ state_of sizes rates draws.old count) }
@@ -103,7 +103,7 @@ fn rows_beside<G: Gate, C: Calls + Sync, R: Threads + Wait + Sync>(
     natives: &C,
 ) -> Result<Vec<Made>, AllocError>
     requires few { first + length states.now ≤ 10000 }
-    ensures count { IfOk result (λ rows. vec_len rows ≡ length states.now) }
+    ensures count { IfOk result (λ rows. length rows.items ≡ length states.now) }
     ensures rows { (M : MissionValue) → mission_of bytes.now ≡ Ok M → IfOk result (λ rows. (place : ℕ) (d : _) →
         place < length states.now → IfOk (slice_index_or rows.items place d)
         (TellsFrom M rates (first + place) (slice_index_or states.now place 0))) }
@@ -142,7 +142,7 @@ pub(crate) fn next_rows<G: Gate, C: Calls + Sync, R: Threads + Wait + Sync>(
 ) -> Result<Vec<Made>, AllocError>
     requires read { mission_of bytes.now ≡ Ok mission.now }
     requires few { first + count ≤ 10000 }
-    ensures count { IfOk result (λ rows. vec_len rows ≡ count) }
+    ensures count { IfOk result (λ rows. length rows.items ≡ count) }
     ensures number { OnOk result (draws.new ≡ state_of (sizes_of mission.now) rates draws.old count) }
     ensures rows { (x : ℕ) → draws.old ≡ state_of (sizes_of mission.now) rates x first →
         IfOk result (λ rows. HasRows mission.now rates x first rows.items) }

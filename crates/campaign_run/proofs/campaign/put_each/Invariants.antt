@@ -8,6 +8,7 @@ use Rattle.campaign_run.proofs.campaign.put_each.Given as goal
 -- the rows so far were written and added up, whichever runs of a campaign they are
 abbrev pub invariant-loop-row : goal.invariant-loop-row
 invariant-loop-row g l = record {
+  within : l.row-index ≤ length l.rows;
   count : l.totals.runs ≡ l.initial.totals.runs + l.row-index;
   at : (M : MissionValue) (rates : Rates) (x all first : ℕ) (begun : SinkView) → first + length l.rows ≤ all →
       HasRows M rates x first l.rows → HasPut M rates x begun first l.initial.totals (g.K.Sink.seen l.initial.out) →
