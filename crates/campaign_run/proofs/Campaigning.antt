@@ -32,7 +32,7 @@ drawn_row M m given rates x run state bound told text same made number bounded t
 
 -- a mission that bytes are is the only one
 pub same_read : {E : Type 0} (read : Result MissionValue E) (m M : MissionValue) → read ≡ Ok m → read ≡ Ok M → m ≡ M
-same_read read m M one two = same_ok (sym one ∙ two)
+same_read {E = E} read m M one two = same_ok (sym one ∙ two)
   where
     same_ok : Ok {E = E} m ≡ Ok M → m ≡ M
     same_ok h = cc

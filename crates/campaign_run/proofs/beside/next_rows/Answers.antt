@@ -1,3 +1,4 @@
+use Rattle.std.proofs.Common.{rules}
 use Rattle.campaign_run.proofs.Following.{rows_made}
 use Rattle.campaign_run.proofs.beside.next_rows.Goals as goal
 

@@ -1,4 +1,4 @@
-use Rattle.std.proofs.Common.{ap, refl, sym, subst, ◌∙◌, ◌+◌, ◌≡◌, arith}
+use Rattle.std.proofs.Common.{ap, refl, sym, subst, ◌∙◌, ◌+◌, ◌≡◌, ◌≤◌, arith}
 use Rattle.std.proofs.lemmas.Result.{err_from_is_err_and}
 use Rattle.campaign_draws.specs.Drawing.{sizes_of, state_of}
 use Rattle.campaign_text.specs.Summaries.{TotalsValue, totals_of}
@@ -16,7 +16,7 @@ loop-first-init g c =
       next = c.of-draws.ensures;
       put =
           head_done c.args.mission.now c.args.rates c.args.state (g.K.Sink.seen c.args.out.now) c.args.totals.now
-          (g.K.Sink.seen c.put_text.new.out) c.requires.none c.in_ok-put_text.ensures;
+          (g.K.Sink.seen c.put_text.new.out) c.requires.none (rw c.head_row.ensures at c.in_ok-put_text.ensures);
     }
 
 pub returns-in_err-put_text : goal.returns-in_err-put_text
@@ -24,7 +24,8 @@ returns-in_err-put_text g c =
     let p = err_from_is_err_and c.from_residual.result c.from_residual.ensures.1 in
     rw (p.1, p.2)
     (head_stops c.args.mission.now c.args.rates c.args.state (g.K.Sink.seen c.args.out.now) c.args.runs
-    (g.K.Sink.seen c.put_text.new.out) c.in_err-put_text.field-0.0 c.in_err-put_text.ensures)
+    (g.K.Sink.seen c.put_text.new.out) c.in_err-put_text.field-0.0
+    (rw c.head_row.ensures at c.in_err-put_text.ensures))
 
 pub loop-first-preserved : goal.loop-first-preserved
 loop-first-preserved g c =
@@ -32,7 +33,7 @@ loop-first-preserved g c =
     let M = c.args.mission.now in
     let first = c.loop-first.first in
     let count = c.min-count.result in
-    let within = omega (arith, c.min-count.ensures, c.loop-first-test.true, inv.within) in
+    let within : first + count ≤ c.args.runs = omega (arith, c.min-count.ensures, c.loop-first-test.true) in
     record {
       within = within;
       count = c.in_ok-put_next.ensures.count;
@@ -44,9 +45,10 @@ loop-first-preserved g c =
 
 pub returns-in_err-put_next : goal.returns-in_err-put_next
 returns-in_err-put_next g c =
-    let p = err_from_is_err_and c.from_residual.result c.from_residual.ensures.1 in
+    let p = err_from_is_err_and c.from_residual-in_err-put_next.result c.from_residual-in_err-put_next.ensures.1 in
     let inv = c.loop-first.invariant in
-    let within = omega (arith, c.min-count.ensures, c.loop-first-test.true, inv.within) in
+    let within : c.loop-first.first + c.min-count.result ≤ c.args.runs =
+    omega (arith, c.min-count.ensures, c.loop-first-test.true) in
     rw (p.1, p.2)
     (c.in_err-put_next.ensures.rows c.args.state c.args.runs (g.K.Sink.seen c.args.out.now) within inv.next inv.put)
 

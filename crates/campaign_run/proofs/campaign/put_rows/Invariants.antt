@@ -8,8 +8,8 @@ abbrev pub invariant-loop-first : goal.invariant-loop-first
 invariant-loop-first g l = record {
   within : l.first ≤ l.runs;
   count : l.totals.runs ≡ l.first;
-  next : l.draws ≡ state_of (sizes_of l.mission.now) l.rates l.state l.first;
-  put : HasPut l.mission.now l.rates l.state (g.K.Sink.seen l.fn.out) l.first l.totals (g.K.Sink.seen l.out);
+  next : l.draws ≡ state_of (sizes_of l.mission) l.rates l.state l.first;
+  put : HasPut l.mission l.rates l.state (g.K.Sink.seen l.fn.out) l.first l.totals (g.K.Sink.seen l.out);
 }
 
 -- each turn runs one run or more
