@@ -30,12 +30,14 @@ drawn_row M m given rates x run state bound told text same made number bounded t
     (subst (λ (b : Option ℕ). TellsRun given run x b told text) (bounded ∙ ap bound_of same)
     (subst (λ (k : ℕ). TellsRun given run k bound told text) number tells))
 
+value_or : {E : Type 0} → MissionValue → Result MissionValue E → MissionValue
+value_or m (Ok read) = read
+value_or m (Err e) = m
+
 -- a mission that bytes are is the only one
 pub same_read : {E : Type 0} (read : Result MissionValue E) (m M : MissionValue) → read ≡ Ok m → read ≡ Ok M → m ≡ M
-same_read {E = E} read m M one two = same_ok (sym one ∙ two)
-  where
-    same_ok : Ok {E = E} m ≡ Ok M → m ≡ M
-    same_ok h = cc
+unfolding value_or
+same_read read m M one two = ap (value_or m) (sym one ∙ two)
 
 module _ (M : MissionValue) (rates : Rates) (x : ℕ) (begun : SinkView) where
   -- the line of the columns was written, and no row

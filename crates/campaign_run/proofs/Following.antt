@@ -13,6 +13,12 @@ use Rattle.campaign_run.specs.Counting.{TellsRun}
 use Rattle.campaign_run.specs.declared.row.Row.{Row}
 
 module _ (S : SizesValue) (rates : Rates) (x : ℕ) where
+  pub next_state : (n : ℕ) → state_of S rates x (n + 1) ≡ after_run S rates (state_of S rates x n)
+  unfolding state_of
+  next_state n =
+      let same : n + 1 ≡ suc n = omega arith in
+      ap (state_of S rates x) same
+
   -- the numbers of later runs follow that of the first of these
   pub later_state : (first n : ℕ) → state_of S rates (state_of S rates x first) n ≡ state_of S rates x (first + n)
   unfolding state_of

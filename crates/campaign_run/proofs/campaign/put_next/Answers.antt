@@ -14,7 +14,7 @@ returns-clause-rows g c =
     λ x all begun le begins put.
     let M = c.args.mission.now in
     let rows = c.in-Ok.rows.items in
-    let puts = rw c.as_slice.ensures at c.put_each.ensures.rows in
+    let puts = rw c.as_slice.ensures.value at c.put_each.ensures.rows in
     let same : length rows ≡ c.args.count = c.in-Ok.ensures.count in
     let within : c.args.first + length rows ≤ all = omega (arith, le, same) in
     subst

@@ -1,8 +1,10 @@
-use Rattle.std.proofs.Common.{ap, refl, sym, subst, ◌∙◌, ◌+◌, ◌≡◌, ◌≤◌, arith}
+use Rattle.std.proofs.Common.{Err, ap, subst, ◌∙◌, ◌+◌, ◌≡◌, ◌≤◌, arith}
 use Rattle.std.proofs.lemmas.Result.{err_from_is_err_and}
+use Rattle.guards_model.specs.Texts.{TextValue}
 use Rattle.campaign_draws.specs.Drawing.{sizes_of, state_of}
 use Rattle.campaign_text.specs.Summaries.{TotalsValue, totals_of}
 use Rattle.campaign_run.specs.Beside.{HasPut}
+use Rattle.campaign_run.specs.Campaigns.{PutsText}
 use Rattle.campaign_run.proofs.Campaigning.{head_done, head_stops}
 use Rattle.campaign_run.proofs.Following.{later_state}
 use Rattle.campaign_run.proofs.campaign.put_rows.Goals as goal
@@ -25,7 +27,10 @@ returns-in_err-put_text g c =
     rw (p.1, p.2)
     (head_stops c.args.mission.now c.args.rates c.args.state (g.K.Sink.seen c.args.out.now) c.args.runs
     (g.K.Sink.seen c.put_text.new.out) c.in_err-put_text.field-0.0
-    (rw c.head_row.ensures at c.in_err-put_text.ensures))
+    (subst
+    (λ (t : TextValue). PutsText (g.K.Sink.seen c.args.out.now) (g.K.Sink.seen c.put_text.new.out) t
+    (Err c.in_err-put_text.field-0.0))
+    c.head_row.ensures c.in_err-put_text.ensures))
 
 pub loop-first-preserved : goal.loop-first-preserved
 loop-first-preserved g c =
