@@ -26,6 +26,7 @@ use Rattle.campaign_facts.specs.Tallies.{tally_of}
 use Rattle.campaign_text.specs.Rows.{row_text}
 use Rattle.campaign_text.specs.Summaries.{RunValue, summary_text, totals_of}
 use Rattle.campaign_run.specs.Counting.{IsToldRun, TellsRun, counted}
+use Rattle.campaign_run.proofs.Rows.{told_run}
 use Rattle.campaign_run.specs.Campaigns.{AreRows, IsCampaign, bound_of}
 use Rattle.campaign_laws.proofs.Forging.{forges_no_sweep}
 
@@ -79,7 +80,7 @@ same_facts P R same = sym (facts_without P) ∙ ap facts_of same ∙ facts_witho
 
 -- what is told of a run, by the cycles that are told and the stop
 abbrev told_by : MissionValue → Past → Option StopValue → RunValue
-told_by M past stop = record { counts = tally_of M.script (facts_of past); stop = stop }
+told_by M past stop = told_run (tally_of M.script (facts_of past)) stop
 
 module _ (M : MissionValue) where
   -- a run that came to its end, and what is told of it
@@ -121,8 +122,7 @@ module _ (M : MissionValue) where
       let facts = same_facts _ _ (facts_alike M one.log two.log none one.run_is two.run_is) in
       one.told_is
       ∙ ap (told_by M (told_cycles (cycles_before M one.log M.cycles))) stops
-      ∙ ap (λ (fs : PastFacts).
-      record { counts = tally_of M.script fs; stop = stop_of (cycles_before M two.log M.cycles) }) facts
+      ∙ ap (λ (fs : PastFacts). told_run (tally_of M.script fs) (stop_of (cycles_before M two.log M.cycles))) facts
       ∙ sym two.told_is
 
   same_rows : (run state : ℕ) (bound : Option ℕ) (s t : RunValue) (a b : TextValue) → s ≡ t →

@@ -20,6 +20,7 @@ use Rattle.tally_laws.proofs.Unnamed.{none_false}
 use Rattle.campaign_draws.specs.declared.rates.Rates.{Rates}
 use Rattle.campaign_draws.specs.Drawing.{drawn_mission, run_mission, sizes_of, state_of}
 use Rattle.campaign_draws.proofs.DrawnMissions.{drawn_is_mission}
+use Rattle.campaign_run.proofs.Rows.{told_run}
 use Rattle.campaign_run.specs.Campaigns.{AreRows, IsRow, bound_of}
 use Rattle.campaign_run.specs.Counting.{IsToldRun, TellsRun, counted}
 use Rattle.campaign_laws.specs.LawfulRows.{IsLawfulRow, lawful_tally}
@@ -50,29 +51,37 @@ record IsLawful (M : MissionValue) (told : RunValue) : Type 0 where
   count : ℕ
   stop : Option StopValue
   within : count ≤ M.cycles
-  is : told ≡ record { counts = lawful_tally M (facts_of (cycles_before M log count)); stop = stop }
+  ran : HasRun M log count
+  scripted : AllByRecursion (IsScripted (bus_rules M)) log
+  is : told ≡ told_run (lawful_tally M (facts_of (cycles_before M log count))) stop
 
 told_lawful : (M : MissionValue) (told : RunValue) → IsMission M → IsToldRun M told → IsLawful M told
 told_lawful M told mission (L, histories, each, inl (cycles, is)) =
+    let ran : HasRun M L M.cycles = whole_run M L M.cycles (ran_whole M L histories cycles) in
     record {
       log = L;
       count = M.cycles;
       stop = None;
       within = omega arith;
+      ran = ran;
+      scripted = each;
       is = is
-          ∙ ap (λ (t : TallyValue). record { counts = t; stop = None })
-          (lawful M L M.cycles mission (omega arith) (whole_run M L M.cycles (ran_whole M L histories cycles)) each);
+          ∙ ap (λ (t : TallyValue). told_run t None)
+          (lawful M L M.cycles mission (omega arith) ran each);
     }
 told_lawful M told mission (L, histories, each, inr (stop, to, is)) =
+    let ran : HasRun M L stop.cycle =
+    stopped_run M L stop.cycle stop.slot (due_to_stop M L histories stop to) to.unstopped in
     record {
       log = L;
       count = stop.cycle;
       stop = Some stop;
       within = omega (arith, to.within);
+      ran = ran;
+      scripted = each;
       is = is
-          ∙ ap (λ (t : TallyValue). record { counts = t; stop = Some stop })
-          (lawful M L stop.cycle mission (omega (arith, to.within))
-          (stopped_run M L stop.cycle stop.slot (due_to_stop M L histories stop to) to.unstopped) each);
+          ∙ ap (λ (t : TallyValue). told_run t (Some stop))
+          (lawful M L stop.cycle mission (omega (arith, to.within)) ran each);
     }
 
 pub rows_lawful : (M : MissionValue) (run state : ℕ) (bound : Option ℕ) (told : RunValue) (text : TextValue) →
@@ -82,6 +91,9 @@ rows_lawful M run state bound told text mission tells =
       so.log,
       so.count,
       so.stop,
+      so.within,
+      so.ran,
+      so.scripted,
       tells.1 ∙ ap (λ (r : RunValue). row_text run state M.script r.counts r.stop bound) so.is,
     )
 

@@ -32,8 +32,8 @@ pub fn texts_are_alike()
         IsCampaign M rates x n b → a ≡ b }
 {}
 
-/// The row of a run tells 0 false removals, and of its transfers the length that the mission's rules and its table
-/// tell.
+/// The row of a run tells its cycles, of which 0 removals are false and the longest transfer has the length that the
+/// mission's rules and its table tell.
 pub fn rows_are_lawful()
     ensures { (M : MissionValue) (run state : ℕ) (bound : Option ℕ) (told : RunValue) (text : TextValue) →
         IsMission M → TellsRun M run state bound told text → IsLawfulRow M run state bound text }

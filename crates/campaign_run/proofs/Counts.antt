@@ -1,18 +1,18 @@
 -- What one more cycle does to what is counted of a run.
-use Rattle.std.proofs.Common.{◌≡◌, ◌<◌, ◌==◌, ℕ, suc, List, [], ◌∷◌, ◌++◌, length, map, Result, Ok, Err, None, Option, refl, sym, ap, subst, ◌∙◌}
+use Rattle.std.proofs.Common.{◌≡◌, ◌<◌, ◌==◌, ℕ, suc, List, [], ◌∷◌, ◌++◌, length, map, Ok, Err, None, Option, refl, sym, ap, subst, ◌∙◌}
 use Rattle.std.specs.List.{list_any}
 use Rattle.guards_model.specs.declared.Slot.TheVariants.{Switch}
 use Rattle.guards_model.specs.BusRules.{RuleValue}
 use Rattle.guards_model.specs.Channels.{ChannelSet, channels_where, has}
 use Rattle.guards_model.specs.Missions.{MissionValue, IsMission, bus_rules}
-use Rattle.guards_model.specs.Network.{EntryValue, Log}
+use Rattle.guards_model.specs.Network.{EntryValue}
 use Rattle.guards_model.specs.Records.{shown_line, shown}
 use Rattle.guards_model.specs.Rounds.{Steps}
 use Rattle.guards_model.specs.Texts.{LineValue, RecordValue, StopValue}
 use Rattle.guards_model.specs.Transfers.{TransferValue}
 use Rattle.guards_runs.specs.Cycles.{Cycle, Past, cycles_before, cycle_at}
 use Rattle.guards_runs.specs.Report.{cycle_record, line_of, channels_running_in}
-use Rattle.guards_world.specs.Worlds.{WorldValue, HaltValue, disturbed, no_memory, first_world}
+use Rattle.guards_world.specs.Worlds.{WorldValue, disturbed, no_memory, first_world}
 use Rattle.guards_model.specs.Network.{BusValue}
 use Rattle.guards_world.specs.WorldCycle.{PassesCycle}
 use Rattle.icn_world.specs.declared.world.Halt.{Halt}
@@ -70,8 +70,7 @@ record_facts M steps c e r told =
 stop_keeps : (may : List RuleValue → EntryValue → Type 0) (w new : WorldValue) (bus after : BusValue) (s : StopValue) →
     PassesCycle may None w bus (Err (disturbed s)) new after → new.mission ≡ w.mission
 stop_keeps may w new bus after s cycled =
-    let (now, carries, carried, e, past, stops) = cycled in
-    stops.mission
+    cycled.3.2.mission
 
 module _ (may : List RuleValue → EntryValue → Type 0) (M : MissionValue) (start : BusValue) where
   -- no cycle ran, and nothing was counted

@@ -1,12 +1,14 @@
 //! The row of one run.
-ghost use Rattle.std.specs.Prelude.{◌≡◌, string_bytes, IfOk};
+ghost use Rattle.std.specs.Prelude.{◌≡◌, string_bytes, Err, IfOk, Some};
 ghost use Rattle.campaign_run.specs.Counting.{TellsRun};
 ghost use Rattle.campaign_run.specs.Ends.{EndsAs};
+ghost use Rattle.world_run.specs.Running.{stop_value};
 
 use crate::counting::count_cycles;
 use campaign_facts::Tally;
 use campaign_text::{Stop, row_text};
 use ctx_lock::Gate;
+use guards_base::{ChanSet, Slot};
 use icn_bus::{Bus, ScriptBus};
 use icn_world::{Halt, World};
 use mission_type::Mission;
@@ -15,26 +17,40 @@ use std::alloc::{AllocError, Global};
 use std::sync::Wait;
 use std::thread::Threads;
 
+/// The stop of a run.
+fn stopped(cycle: u32, slot: Slot, set: ChanSet, active: ChanSet) -> Option<Stop>
+    ensures { result ≡ Some (stop_value cycle slot set active) }
+{
+    Some(Stop {
+        cycle,
+        slot,
+        set,
+        active,
+    })
+}
+
+/// How a run ended that came to no end of its own.
+fn halted(halt: Halt) -> Result<Option<Stop>, AllocError>
+    ensures { EndsAs (Err halt) result }
+{
+    match halt {
+        Halt::Disturbed {
+            cycle,
+            slot,
+            set,
+            active,
+        } => Ok(stopped(cycle, slot, set, active)),
+        Halt::NoMemory => Err(AllocError),
+    }
+}
+
 /// How a run ended: with its last cycle, or by a stop.
 fn ended(ran: Result<(), Halt>) -> Result<Option<Stop>, AllocError>
     ensures { EndsAs ran result }
 {
     match ran {
         Ok(()) => Ok(None),
-        Err(
-            Halt::Disturbed {
-                cycle,
-                slot,
-                set,
-                active,
-            },
-        ) => Ok(Some(Stop {
-            cycle,
-            slot,
-            set,
-            active,
-        })),
-        Err(Halt::NoMemory) => Err(AllocError),
+        Err(halt) => halted(halt),
     }
 }
 
