@@ -10,9 +10,9 @@ use Rattle.guards_model.specs.JoinBound.{join_bound, most_blocks}
 use Rattle.guards_model.specs.Missions.{MissionValue}
 use Rattle.guards_model.specs.Texts.{TextValue}
 use Rattle.campaign_draws.specs.declared.rates.Rates.{Rates}
-use Rattle.campaign_draws.specs.Drawing.{after_run, drawn_mission, run_mission, sizes_of, state_of}
+use Rattle.campaign_draws.specs.Drawing.{run_mission, sizes_of, state_of}
 use Rattle.campaign_text.specs.Rows.{head_row}
-use Rattle.campaign_text.specs.Summaries.{RunValue, TotalsValue, summary_text, totals_of, totals_with}
+use Rattle.campaign_text.specs.Summaries.{RunValue, summary_text, totals_of}
 use Rattle.campaign_run.specs.Counting.{TellsRun}
 
 -- the most cycles that a transfer of a mission takes, if there is such a bound
@@ -57,29 +57,8 @@ module _ (M : MissionValue) (rates : Rates) (x : ℕ) where
       (first : ℕ) × (runs : List RunValue) × (text : TextValue) × (first ≤ n) × AreRows first runs text
       × Appends out.written out'.written text × (out'.faults ≡ out.faults)
 
--- What writing the line of the columns and the rows of n runs does, and what the totals then are.
-abbrev pub PutsRows : MissionValue → Rates → ℕ → ℕ → TotalsValue → SinkView → SinkView →
-    Result (Unit {0}) WriteStop → Type 0
-PutsRows M rates x n totals out out' (Ok _) =
-    (runs : List RunValue) × (text : TextValue) × AreRows M rates x n runs text × (totals ≡ totals_of runs)
-    × Appends out.written out'.written text × (out'.faults ≡ out.faults)
-PutsRows M rates x n totals out out' (Err stop) = Campaigns M rates x n out out' (Err stop)
-
 -- What writing a text does: it was written, or the sink failed, and a front of it was. It takes no memory.
 abbrev pub PutsText : SinkView → SinkView → TextValue → Result (Unit {0}) WriteStop → Type 0
 PutsText out out' text (Ok _) = Appends out.written out'.written text × (out'.faults ≡ out.faults)
 PutsText out out' text (Err write.Failed) = AppendsPart out.written out'.written text × Rose out.faults out'.faults
 PutsText out out' text (Err write.Memory) = ⊥
-
--- What writing the row of a run does that is drawn from a number, which number is then the next, and what the totals
--- are.
-abbrev pub PutsRow : MissionValue → Rates → ℕ → ℕ → ℕ → TotalsValue → TotalsValue → SinkView → SinkView →
-    Result (Unit {0}) WriteStop → Type 0
-PutsRow M rates run x next totals totals' out out' (Ok _) =
-    (told : RunValue) × (row : TextValue) × TellsRun (drawn_mission M rates x) run x (bound_of M) told row
-    × (next ≡ after_run (sizes_of M) rates x) × (totals' ≡ totals_with told.counts told.stop totals)
-    × Appends out.written out'.written row × (out'.faults ≡ out.faults)
-PutsRow M rates run x next totals totals' out out' (Err write.Failed) =
-    (told : RunValue) × (row : TextValue) × TellsRun (drawn_mission M rates x) run x (bound_of M) told row
-    × AppendsPart out.written out'.written row × Rose out.faults out'.faults
-PutsRow M rates run x next totals totals' out out' (Err write.Memory) = out' ≡ out

@@ -1,3 +1,4 @@
 pub mod Counting
 pub mod Campaigns
 pub mod Ends
+pub mod Beside

@@ -1,52 +1,24 @@
-//! Runs the missions of a campaign one after the other, and writes their rows.
-ghost use Rattle.std.specs.Prelude.{◌≡◌, ◌≤◌, ◌<◌, suc, [], Ok, string_bytes, IfOk, OnOk};
+//! Runs the missions of a campaign, a few at a time side by side, and writes their rows in order.
+ghost use Rattle.std.specs.Prelude.{◌≡◌, ◌≤◌, ◌<◌, ◌+◌, ℕ, suc, [], length, Ok, OnOk};
+ghost use Rattle.guards_io.specs.Views.{SinkView};
 ghost use Rattle.guards_io.specs.Writes.{Puts};
-ghost use Rattle.guards_model.specs.Missions.{MissionValue};
 ghost use Rattle.mission_text.specs.Mission.{mission_of};
-ghost use Rattle.campaign_draws.specs.Drawing.{after_run, drawn_mission, sizes_of};
+ghost use Rattle.campaign_draws.specs.Drawing.{sizes_of, state_of};
 ghost use Rattle.campaign_text.specs.Summaries.{summary_text, totals_of};
-ghost use Rattle.campaign_run.specs.Campaigns.{Campaigns, PutsRow, PutsRows, PutsText, bound_of};
-ghost use Rattle.campaign_run.specs.Counting.{TellsRun};
+ghost use Rattle.campaign_run.specs.Beside.{HasPut, PutsRow, PutsRows, PutsTo};
+ghost use Rattle.campaign_run.specs.Campaigns.{Campaigns, PutsText, bound_of};
 
+use crate::beside::{Made, next_rows, runs_beside};
 use crate::missions::bound_of;
-use crate::row::{Row, run_row};
-use campaign_draws::{Draws, Rates, drawn_mission};
+use campaign_draws::{Draws, Rates};
 use campaign_text::{Totals, head_row};
 use ctx_lock::Gate;
 use guards_io::{Sink, WriteStop, put, write_all};
-use mission_text::read;
 use mission_type::Mission;
 use native_calls::Calls;
-use std::alloc::{AllocError, Global};
+use std::alloc::Global;
 use std::sync::Wait;
 use std::thread::Threads;
-
-/// Draws the script of the next run, runs the mission with it, and goes on to the number after the draws.
-fn next_row<G: Gate, C: Calls + Sync, R: Threads + Wait + Sync>(
-    rt: &R,
-    alloc: Global,
-    bytes: &[u8],
-    rates: Rates,
-    run: u32,
-    draws: &mut Draws,
-    gate: &G,
-    natives: &C,
-) -> Result<Row, AllocError>
-    ensures row { (M : MissionValue) → mission_of bytes.now ≡ Ok M →
-        IfOk result (λ row. TellsRun (drawn_mission M rates draws.old) run draws.old (bound_of M)
-        (record { counts = row.tally; stop = row.stop }) (string_bytes row.text)) }
-    ensures number { (M : MissionValue) → mission_of bytes.now ≡ Ok M →
-        OnOk result (draws.new ≡ after_run (sizes_of M) rates draws.old) }
-{
-    let Ok(mission) = read(alloc, bytes) else {
-        return Err(AllocError);
-    };
-    let bound = bound_of(&mission);
-    let state = draws.number();
-    let drawn = drawn_mission(alloc, mission, rates, draws)?;
-    let row = run_row(rt, alloc, run, state, bound, drawn, gate, natives)?;
-    Ok(row)
-}
 
 /// Writes a text. It takes no memory.
 fn put_text<K: Sink>(out: &mut K, text: &str) -> Result<(), WriteStop>
@@ -58,37 +30,74 @@ fn put_text<K: Sink>(out: &mut K, text: &str) -> Result<(), WriteStop>
     }
 }
 
-/// Writes the row of the next run, and adds what it tells.
+/// Writes a row, and adds what it tells.
 #[tactic(auto, unfolding(campaign_text::specs::Summaries::totals_with))]
-fn put_row<K: Sink, G: Gate, C: Calls + Sync, R: Threads + Wait + Sync>(
+fn put_row<K: Sink>(row: &Made, totals: &mut Totals, out: &mut K) -> Result<(), WriteStop>
+    requires { totals.old.runs < 10000 }
+    ensures count { OnOk result (totals.new.runs ≡ suc totals.old.runs) }
+    ensures row { PutsRow row.now totals.old totals.new (K.seen out.old) (K.seen out.new) result }
+{
+    match row {
+        Ok(row) => {
+            totals.add(&row.tally, &row.stop);
+            put_text(out, &row.text)
+        }
+        Err(_) => Err(WriteStop::Memory),
+    }
+}
+
+/// Writes these rows one after the other, up to one that memory was wanting for.
+fn put_each<K: Sink>(rows: &[Made], totals: &mut Totals, out: &mut K) -> Result<(), WriteStop>
+    requires { totals.old.runs + length rows.now ≤ 10000 }
+    ensures count { OnOk result (totals.new.runs ≡ totals.old.runs + length rows.now) }
+    ensures rows { PutsRows rows.now totals.old totals.new (K.seen out.old) (K.seen out.new) result }
+{
+    for row in rows {
+        put_row(row, totals, out)?;
+    }
+    Ok(())
+}
+
+/// Runs the next runs of a campaign side by side, at most 64, and writes their rows in order.
+fn put_next<K: Sink, G: Gate, C: Calls + Sync, R: Threads + Wait + Sync>(
     rt: &R,
     alloc: Global,
     bytes: &[u8],
+    mission: &Mission,
     rates: Rates,
-    run: u32,
+    first: u32,
+    count: u32,
     draws: &mut Draws,
     totals: &mut Totals,
     out: &mut K,
     gate: &G,
     natives: &C,
 ) -> Result<(), WriteStop>
-    requires few { totals.old.runs < 10000 }
-    ensures count { OnOk result (totals.new.runs ≡ suc totals.old.runs) }
-    ensures row { (M : MissionValue) → mission_of bytes.now ≡ Ok M → PutsRow M rates run draws.old draws.new
-        totals.old totals.new (K.seen out.old) (K.seen out.new) result }
+    requires read { mission_of bytes.now ≡ Ok mission.now }
+    requires few { first + count ≤ 10000 }
+    requires beside { count ≤ 64 }
+    requires runs { totals.old.runs ≡ first }
+    ensures count { OnOk result (totals.new.runs ≡ first + count) }
+    ensures number { OnOk result (draws.new ≡ state_of (sizes_of mission.now) rates draws.old count) }
+    ensures rows { (x all : ℕ) (begun : SinkView) → first + count ≤ all →
+        draws.old ≡ state_of (sizes_of mission.now) rates x first →
+        HasPut mission.now rates x begun first totals.old (K.seen out.old) →
+        PutsTo mission.now rates x begun all (first + count) totals.new (K.seen out.new) result }
 {
-    let Ok(row) = next_row(rt, alloc, bytes, rates, run, draws, gate, natives) else {
+    let Ok(rows) = next_rows(
+        rt, alloc, bytes, mission, rates, first, count, draws, gate, natives,
+    ) else {
         return Err(WriteStop::Memory);
     };
-    totals.add(&row.tally, &row.stop);
-    put_text(out, &row.text)
+    put_each(rows.as_slice(), totals, out)
 }
 
-/// Writes the line of the columns and the rows of so many runs.
+/// Writes the line of the columns and the rows of so many runs, as many at a time as go side by side.
 fn put_rows<K: Sink, G: Gate, C: Calls + Sync, R: Threads + Wait + Sync>(
     rt: &R,
     alloc: Global,
     bytes: &[u8],
+    mission: &Mission,
     rates: Rates,
     state: u64,
     runs: u32,
@@ -97,17 +106,21 @@ fn put_rows<K: Sink, G: Gate, C: Calls + Sync, R: Threads + Wait + Sync>(
     gate: &G,
     natives: &C,
 ) -> Result<(), WriteStop>
+    requires read { mission_of bytes.now ≡ Ok mission.now }
     requires few { runs ≤ 10000 }
     requires none { totals.old ≡ totals_of [] }
-    ensures { (M : MissionValue) → mission_of bytes.now ≡ Ok M → PutsRows M rates state runs totals.new
-        (K.seen out.old) (K.seen out.new) result }
+    ensures { PutsTo mission.now rates state (K.seen out.old) runs runs totals.new (K.seen out.new) result }
 {
+    let beside = runs_beside(rt);
     let mut draws = Draws::of(state);
     put_text(out, head_row())?;
-    for run in 0..runs {
-        put_row(
-            rt, alloc, bytes, rates, run, &mut draws, totals, out, gate, natives,
+    let mut first = 0;
+    while first < runs {
+        let count = beside.min(runs - first);
+        put_next(
+            rt, alloc, bytes, mission, rates, first, count, &mut draws, totals, out, gate, natives,
         )?;
+        first += count;
     }
     Ok(())
 }
@@ -151,6 +164,7 @@ pub fn run_campaign<K: Sink, G: Gate, C: Calls + Sync, R: Threads + Wait + Sync>
         rt,
         alloc,
         bytes,
+        mission,
         rates,
         state,
         runs,

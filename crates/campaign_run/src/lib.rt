@@ -1,6 +1,7 @@
 //! Runs the missions of a campaign, and tells each by its row.
 #![tactic(auto)]
 
+mod beside;
 mod campaign;
 mod counting;
 mod missions;

@@ -1,13 +1,17 @@
-use Rattle.std.proofs.Common.{◌≡◌, Ok}
-use Rattle.guards_model.specs.Missions.{MissionValue}
-use Rattle.mission_text.specs.Mission.{mission_of}
-use Rattle.campaign_run.proofs.Campaigning.{IsAt}
+use Rattle.std.proofs.Common.{◌≡◌, ◌≤◌, ◌-◌}
+use Rattle.campaign_draws.specs.Drawing.{sizes_of, state_of}
+use Rattle.campaign_run.specs.Beside.{HasPut}
 use Rattle.campaign_run.proofs.campaign.put_rows.Given as goal
 
--- the rows of the runs so far were written and added up
-abbrev pub invariant-loop-run : goal.invariant-loop-run
-invariant-loop-run g l = record {
-  count : l.totals.runs ≡ l.run;
-  at : (M : MissionValue) → mission_of l.bytes ≡ Ok M →
-      IsAt M l.rates l.state (g.K.Sink.seen l.fn.out) l.run l.draws l.totals (g.K.Sink.seen l.out);
+-- the rows of the runs before this one were written and added up, and the next one is drawn from its number
+abbrev pub invariant-loop-first : goal.invariant-loop-first
+invariant-loop-first g l = record {
+  within : l.first ≤ l.runs;
+  count : l.totals.runs ≡ l.first;
+  next : l.draws ≡ state_of (sizes_of l.mission) l.rates l.state l.first;
+  put : HasPut l.mission l.rates l.state (g.K.Sink.seen l.fn.out) l.first l.totals (g.K.Sink.seen l.out);
 }
+
+-- each turn runs one run or more
+abbrev pub decreases-loop-first : goal.decreases-loop-first
+decreases-loop-first g l = l.runs - l.first
