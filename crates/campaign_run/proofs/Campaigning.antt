@@ -107,7 +107,7 @@ module _ (M : MissionValue) (rates : Rates) (x : ℕ) (begun : SinkView) where
       let next : suc (first + k) ≡ first + (k + 1) = omega arith in
       let within : first + k < all = omega (arith, lt, le) in
       let tells = subst (λ (made : Result Row E). IfOk made (λ r. IsRow M rates x (first + k) (told r)
-          (string_bytes r.text))) (sym is) (has k row lt) in
+      (string_bytes r.text))) (sym is) (has k row lt) in
       subst (λ n. PutsTo M rates x begun all n totals' b put) next
       (place_put (first + k) all totals totals' a b within at row put tells puts)
 

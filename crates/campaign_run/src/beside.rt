@@ -35,12 +35,7 @@ pub(crate) fn runs_beside(rt: &impl Threads) -> u32
 }
 
 /// Goes on to the number after the draws of a run.
-fn pass_run(
-    alloc: Global,
-    sizes: Sizes,
-    rates: Rates,
-    draws: &mut Draws,
-) -> Result<(), AllocError>
+fn pass_run(alloc: Global, sizes: Sizes, rates: Rates, draws: &mut Draws) -> Result<(), AllocError>
     ensures { OnOk result (draws.new ≡ after_run sizes rates draws.old) }
 {
     let _entries = drawn_entries(alloc, sizes, rates, draws)?;
@@ -120,7 +115,14 @@ fn rows_beside<G: Gate, C: Calls + Sync, R: Threads + Wait + Sync>(
                 (TellsFrom M rates (first + place) (slice_index_or states.entry.now place 0)) }
         {
             row_from(
-                rt, alloc, bytes, rates, first + place as u32, states[place], gate, natives,
+                rt,
+                alloc,
+                bytes,
+                rates,
+                first + place as u32,
+                states[place],
+                gate,
+                natives,
             )
         },
     )
