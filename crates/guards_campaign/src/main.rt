@@ -5,7 +5,10 @@ ghost use Rattle.std.specs.Prelude.{◌≡◌};
 ghost use Rattle.guards_model.specs.declared.Code.TheVariants as codes;
 ghost use Rattle.guards_model.specs.Natives.{native};
 
-use campaign_call::{CampaignStatus, campaign};
+mod watched;
+
+use crate::watched::Watched;
+use campaign_call::{CampaignStatus, Request, campaign, read_request};
 use ctx_lock::OpenGate;
 use guards_base::{Text, Words};
 use guards_io::{Sink, Source, StdSink, StdSource};
@@ -13,7 +16,7 @@ use mission_check::Status;
 use native_calls::{Code, Native, Natives, Operation, middle, ramp, saturated};
 use std::alloc::{AllocError, Global};
 use std::env;
-use std::io::ErrorKind;
+use std::io::{ErrorKind, IsTerminal, Stderr};
 use std::process::ExitCode;
 use std::sync::Wait;
 use std::thread::Threads;
@@ -66,26 +69,37 @@ fn answer<
     campaign(rt, alloc, words, src, out, &OpenGate, &natives)
 }
 
+/// Standard error, where the words ask for rows and it is a terminal, and how many rows.
+fn teller(words: &Words, err: Stderr) -> (Option<Stderr>, u32) {
+    match read_request(words) {
+        Some(Request::Campaign { runs, .. }) if err.is_terminal() => (Some(err), runs),
+        _ => (None, 0),
+    }
+}
+
 fn main(rt: HostRuntime) -> ExitCode {
     let mut src = StdSource::new(rt.stdin());
-    let mut out = StdSink::new(rt.stdout());
     let status = match words(&rt) {
-        Ok(words) => answer(
-            &rt,
-            rt.alloc(),
-            &words,
-            &mut src,
-            &mut out,
-            |a: i64, b: i64, c: i64| -> i64
-                ensures { result ≡ native Code.Sat a b c }
-            { saturated(a, b, c) },
-            |a: i64, b: i64, c: i64| -> i64
-                ensures { result ≡ native Code.Mid a b c }
-            { middle(a, b, c) },
-            |a: i64, b: i64, c: i64| -> i64
-                ensures { result ≡ native Code.Ramp a b c }
-            { ramp(a, b, c) },
-        ),
+        Ok(words) => {
+            let (told, runs) = teller(&words, rt.stderr());
+            let mut out = Watched::new(rt.alloc(), StdSink::new(rt.stdout()), told, runs);
+            answer(
+                &rt,
+                rt.alloc(),
+                &words,
+                &mut src,
+                &mut out,
+                |a: i64, b: i64, c: i64| -> i64
+                    ensures { result ≡ native Code.Sat a b c }
+                { saturated(a, b, c) },
+                |a: i64, b: i64, c: i64| -> i64
+                    ensures { result ≡ native Code.Mid a b c }
+                { middle(a, b, c) },
+                |a: i64, b: i64, c: i64| -> i64
+                    ensures { result ≡ native Code.Ramp a b c }
+                { ramp(a, b, c) },
+            )
+        }
         Err(AllocError) => CampaignStatus::Ended(Status::NoMemory),
     };
     ExitCode::from(status.code())
